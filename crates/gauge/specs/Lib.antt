@@ -1,0 +1,4 @@
+pub mod Rules
+pub mod Costs
+pub mod Pairs
+pub mod Limits

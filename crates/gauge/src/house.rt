@@ -1,0 +1,78 @@
+// The two gauges of the house, and how they are made from three limits.
+ghost use mathlib.Core.Path.{_≡_};
+ghost use lib.ListN.{getD};
+ghost use Rattle.gauge.specs.Limits.{cableAt, driveAt, widestCable, widestDrive};
+use crate::pair::Pair;
+use crate::pair::PairWeight;
+use crate::set::Set;
+use crate::sum::Sum;
+use crate::worst::Worst;
+use fault::LimitFault;
+
+// Decimetres, drillings, zones.
+pub type Cable = Pair<Sum, Pair<Sum, Set>>;
+
+pub type CableWeight = PairWeight<u32, PairWeight<u32, u32>>;
+
+// Decimetres, ramp class, crossings.
+pub type Drive = Pair<Sum, Pair<Worst, Sum>>;
+
+pub type DriveWeight = PairWeight<u32, PairWeight<u8, u32>>;
+
+// The cable gauge at three limits; the first that is out of its range is refused.
+pub fn cable_at(limits: [u32; 3]) -> Result<Cable, LimitFault>
+    ensures { λ r. ⌜ r ≡ cableAt (getD limits 0 0) (getD limits 1 0) (getD limits 2 0) ⌝ }
+{
+    let length = Sum::new(limits[0]).ok_or(LimitFault::Limit(0))?;
+    let drillings = Sum::new(limits[1]).ok_or(LimitFault::Limit(1))?;
+    let zones = Set::new(limits[2]);
+    Ok(Pair {
+        first: length,
+        second: Pair {
+            first: drillings,
+            second: zones,
+        },
+    })
+}
+
+// The drive gauge at three limits; the first that is out of its range is refused.
+pub fn drive_at(limits: [u32; 3]) -> Result<Drive, LimitFault>
+    ensures { λ r. ⌜ r ≡ driveAt (getD limits 0 0) (getD limits 1 0) (getD limits 2 0) ⌝ }
+{
+    let length = Sum::new(limits[0]).ok_or(LimitFault::Limit(0))?;
+    let ramp = Worst::new(limits[1]).ok_or(LimitFault::Limit(1))?;
+    let crossings = Sum::new(limits[2]).ok_or(LimitFault::Limit(2))?;
+    Ok(Pair {
+        first: length,
+        second: Pair {
+            first: ramp,
+            second: crossings,
+        },
+    })
+}
+
+// The cable gauge at its widest limits.
+pub fn widest_cable() -> Cable
+    ensures { λ r. ⌜ r ≡ widestCable ⌝ }
+{
+    Pair {
+        first: Sum::widest(),
+        second: Pair {
+            first: Sum::widest(),
+            second: Set::widest(),
+        },
+    }
+}
+
+// The drive gauge at its widest limits.
+pub fn widest_drive() -> Drive
+    ensures { λ r. ⌜ r ≡ widestDrive ⌝ }
+{
+    Pair {
+        first: Sum::widest(),
+        second: Pair {
+            first: Worst::widest(),
+            second: Sum::widest(),
+        },
+    }
+}

@@ -1,0 +1,63 @@
+ghost use mathlib.Core.Path.{_≡_};
+ghost use lib.Bits.{bitOr};
+ghost use lib.Dec.{ltb};
+ghost use Rattle.gauge.specs.Costs.{inside, subset};
+ghost use Rattle.gauge.specs.Limits.{setAt, widestSet};
+use crate::Gauge;
+
+// Unites sets of 32 zones, within an allowed set: zone k is the bit of value 2^k.
+#[derive(Clone, Copy)]
+pub struct Set {
+    allowed: u32,
+}
+
+impl Set {
+    // The sets within the allowed one.
+    pub fn new(allowed: u32) -> Set
+        ensures { λ r. ⌜ r ≡ setAt allowed ⌝ }
+    {
+        Set { allowed }
+    }
+
+    // Any sets of the 32 zones.
+    pub fn widest() -> Set
+        ensures { λ r. ⌜ r ≡ widestSet ⌝ }
+    {
+        Set { allowed: u32::MAX }
+    }
+}
+
+pub impl Gauge for Set as SetGauge {
+    type Cost = u32;
+
+    type Weight = u32;
+
+    ghost origin = { 0 };
+
+    ghost reach = { λ g c w. inside (g .allowed) (bitOr c w) };
+
+    ghost noWorse = { subset };
+
+    ghost earlier = { ltb };
+
+    fn start() -> u32 {
+        0
+    }
+
+    fn along(&self, cost: u32, weight: u32) -> Option<u32> {
+        let zones = cost | weight;
+        if zones & self.allowed == zones {
+            Some(zones)
+        } else {
+            None
+        }
+    }
+
+    fn no_worse(a: u32, b: u32) -> bool {
+        a & b == a
+    }
+
+    fn before(a: u32, b: u32) -> bool {
+        a < b
+    }
+}
