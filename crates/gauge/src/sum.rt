@@ -54,9 +54,8 @@ pub impl Gauge for Sum as SumGauge {
     }
 
     fn along(&self, cost: u32, weight: u32) -> Option<u32> {
-        let total = cost.checked_add(weight)?;
-        if total <= self.limit {
-            Some(total)
+        if cost <= self.limit && weight <= self.limit - cost {
+            Some(cost + weight)
         } else {
             None
         }
