@@ -85,6 +85,7 @@ sound-check points xs s =
 
 -- what making a plan answers says whether the plan is sound
 pub told-sound : {W : Type 0} (points : ℕ) (xs : List (Run W)) (r : Result (Plan W) PlanFault) → told r ≡ planAnswer points xs → Decides (isOk r) (Sound points xs)
+unfolding planAnswer
 told-sound points xs (Ok p) e = by (checkAnswer points xs) refl e
   where
     by : (a : Result Unit PlanFault) → checkAnswer points xs ≡ a → told (Ok p) ≡ drawnOnce points xs a → Decides true (Sound points xs)

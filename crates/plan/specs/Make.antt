@@ -36,7 +36,7 @@ drawnOnce points runs (Ok _) = Ok (record { points = points; runs = runs })
 drawnOnce points runs (Err e) = Err e
 
 -- what making a plan answers
-abbrev pub planAnswer : {W : Type 0} → ℕ → List (Run W) → Result (Drawn W) PlanFault
+unfoldable pub planAnswer : {W : Type 0} → ℕ → List (Run W) → Result (Drawn W) PlanFault
 planAnswer points runs = drawnOnce points runs (checkAnswer points runs)
 
 -- an answer with what its plan holds

@@ -63,14 +63,14 @@ filled (Ok runs) table = runs ++ drop (length runs) table
 filled (Err e) table = table
 
 -- the runs of a file that is read into a table of so many places
-abbrev pub fileRuns : {W : Type 0} → ℕ → (ℕ → ℕ → ℕ → Result W WeightFault) → List ℕ → ℕ → Result (List (Run W)) FileFault
+unfoldable pub fileRuns : {W : Type 0} → ℕ → (ℕ → ℕ → ℕ → Result W WeightFault) → List ℕ → ℕ → Result (List (Run W)) FileFault
 fileRuns kind weighed bs room = andThen (headerAnswer kind bs room) (λ h. runsFrom weighed bs (h .runs) (h .runs) 0)
 
 -- what reading answers
-abbrev pub fileAnswer : {W : Type 0} → ℕ → (ℕ → ℕ → ℕ → Result W WeightFault) → List ℕ → ℕ → Result Header FileFault
+unfoldable pub fileAnswer : {W : Type 0} → ℕ → (ℕ → ℕ → ℕ → Result W WeightFault) → List ℕ → ℕ → Result Header FileFault
 fileAnswer kind weighed bs room =
     andThen (headerAnswer kind bs room) (λ h. andThen (done (runsFrom weighed bs (h .runs) (h .runs) 0)) (λ _. Ok h))
 
 -- what the table then holds
-abbrev pub fileTable : {W : Type 0} → ℕ → (ℕ → ℕ → ℕ → Result W WeightFault) → List ℕ → List (Run W) → List (Run W)
+unfoldable pub fileTable : {W : Type 0} → ℕ → (ℕ → ℕ → ℕ → Result W WeightFault) → List ℕ → List (Run W) → List (Run W)
 fileTable kind weighed bs table = filled (fileRuns kind weighed bs (length table)) table

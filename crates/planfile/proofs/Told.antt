@@ -1,0 +1,77 @@
+-- What the answer of a reading tells of the runs read.
+use mathlib.Core.Path.{_≡_, refl, sym, ap, _∙_}
+use mathlib.Core.List.{List, [], _∷_, _++_}
+use Prim.Native.Nat.{ℕ, zero, suc, _+_, _≤_}
+use native.Mathlib.Omega.{arith}
+use lib.ListN.{length, take, drop}
+use Rattle.std.proofs.shelf.Lists.{take-at}
+use Rattle.std.proofs.shelf.Ways.{tells}
+use Rattle.std.specs.declared.result.Result.{Result}
+use Rattle.std.specs.declared.result.Result.the-variants.{Ok, Err}
+use Rattle.fault.specs.declared.file.FileFault.{FileFault}
+use Rattle.plan.specs.declared.runs.Run.{Run}
+use Rattle.planfile.specs.declared.kinds.WeightFault.{WeightFault}
+use Rattle.planfile.specs.declared.reader.Header.{Header}
+use Rattle.planfile.specs.Bytes.{u16le}
+use Rattle.planfile.specs.Weights.{andThen}
+use Rattle.planfile.specs.File.{headerAnswer, runAt, runsFrom, done, filled, fileRuns, fileAnswer, fileTable}
+
+-- an accepted header tells the counts, and the runs have room
+header-told : (kind : ℕ) (bs : List ℕ) (room : ℕ) (h : Header) → headerAnswer kind bs room ≡ Ok h → (h .points ≡ u16le bs 0) × (h .runs ≤ room)
+header-told kind bs room h e = (grind (arith, tells), grind (arith, tells))
+
+module _ {W : Type 0} (weighed : ℕ → ℕ → ℕ → Result W WeightFault) (bs : List ℕ) where
+  -- as many runs are read as were asked for
+  runs-length : (r n k : ℕ) (runs : List (Run W)) → runsFrom weighed bs r n k ≡ Ok runs → length runs ≡ n
+  runs-length r zero k runs e = grind arith
+  runs-length r (suc n) k runs e = by (λ xs. runs-length r n (k + 1) xs) (runAt weighed bs r k) (runsFrom weighed bs r n (k + 1)) refl e
+    where
+      by : ((xs : List (Run W)) → runsFrom weighed bs r n (k + 1) ≡ Ok xs → length xs ≡ n) →
+          (a : Result (Run W) FileFault) (b : Result (List (Run W)) FileFault) → runsFrom weighed bs r n (k + 1) ≡ b →
+          andThen a (λ x. andThen b (λ xs. Ok (x ∷ xs))) ≡ Ok runs → length runs ≡ suc n
+      by rest (Ok x) (Ok xs) is same = let ih = rest xs is in grind arith
+      by rest (Ok x) (Err f) is same = grind arith
+      by rest (Err f) b is same = grind arith
+
+  module _ (kind room : ℕ) where
+    -- a refusal is the refusal of the runs
+    pub refused-runs : (f : FileFault) → fileAnswer kind weighed bs room ≡ Err f → fileRuns kind weighed bs room ≡ Err f
+    unfolding fileAnswer fileRuns
+    refused-runs f e = by (headerAnswer kind bs room) e
+      where
+        late : (h : Header) (b : Result (List (Run W)) FileFault) → andThen (done b) (λ _. Ok h) ≡ Err f → b ≡ Err f
+        late h (Ok xs) same = grind arith
+        late h (Err g) same = grind arith
+
+        by : (a : Result Header FileFault) → andThen a (λ h. andThen (done (runsFrom weighed bs (h .runs) (h .runs) 0)) (λ _. Ok h)) ≡ Err f →
+            andThen a (λ h. runsFrom weighed bs (h .runs) (h .runs) 0) ≡ Err f
+        by (Ok h) same = late h (runsFrom weighed bs (h .runs) (h .runs) 0) same
+        by (Err g) same = grind arith
+
+    -- an accepted file has runs, as many as it says
+    pub accepted-runs : (h : Header) → fileAnswer kind weighed bs room ≡ Ok h →
+        (runs : List (Run W)) × (fileRuns kind weighed bs room ≡ Ok runs) × (length runs ≡ h .runs) × (h .points ≡ u16le bs 0) × (h .runs ≤ room)
+    unfolding fileAnswer fileRuns
+    accepted-runs h e = by (headerAnswer kind bs room) refl e
+      where
+        late : (g : Header) → headerAnswer kind bs room ≡ Ok g → (b : Result (List (Run W)) FileFault) → runsFrom weighed bs (g .runs) (g .runs) 0 ≡ b →
+            andThen (done b) (λ _. Ok g) ≡ Ok h →
+            (runs : List (Run W)) × (runsFrom weighed bs (g .runs) (g .runs) 0 ≡ Ok runs) × (length runs ≡ h .runs) × (h .points ≡ u16le bs 0) × (h .runs ≤ room)
+        late g head (Ok xs) is same =
+            let t = header-told kind bs room g head in
+            let n = runs-length (g .runs) (g .runs) 0 xs is in
+            let it : g ≡ h = cc in
+            let points = ap (λ (x : Header). x .points) it in
+            let runs = ap (λ (x : Header). x .runs) it in
+            (xs, is, omega arith, omega arith, omega arith)
+        late g head (Err f) is same = grind arith
+
+        by : (a : Result Header FileFault) → headerAnswer kind bs room ≡ a → andThen a (λ h. andThen (done (runsFrom weighed bs (h .runs) (h .runs) 0)) (λ _. Ok h)) ≡ Ok h →
+            (runs : List (Run W)) × (andThen a (λ h. runsFrom weighed bs (h .runs) (h .runs) 0) ≡ Ok runs) × (length runs ≡ h .runs) × (h .points ≡ u16le bs 0) × (h .runs ≤ room)
+        by (Ok g) head same = late g head (runsFrom weighed bs (g .runs) (g .runs) 0) refl same
+        by (Err f) head same = grind arith
+
+  -- the runs stand in the first places of the table
+  pub table-runs : (kind : ℕ) (table runs : List (Run W)) → fileRuns kind weighed bs (length table) ≡ Ok runs → take (length runs) (fileTable kind weighed bs table) ≡ runs
+  unfolding fileTable
+  table-runs kind table runs e = ap (λ a. take (length runs) (filled a table)) e ∙ take-at runs (drop (length runs) table) (length runs) refl
