@@ -8,9 +8,9 @@ use Rattle.std.specs.declared.option.Option.the-variants.{Some, None}
 use Rattle.gauge.specs.Rules.{rules, Lawful}
 use Rattle.gauge.specs.Costs.{within}
 
--- A number that goes along a run by a step, as long as the result is no worse than a limit, is lawful if:
--- no worse is reflexive and transitive, and never holds of a greater number;
--- the step makes no number better, and of two numbers keeps which is no worse.
+-- a number that goes along a run by a step, as long as the result is no worse than a limit, is lawful if
+-- no worse is reflexive and transitive and never holds of a greater number,
+-- and the step makes no number better and keeps which of two is no worse
 pub lawful-numbers : (no-worse : ℕ → ℕ → Bool) (step : ℕ → ℕ → ℕ) →
     ((a : ℕ) → T (no-worse a a)) →
     ((a b c : ℕ) → T (no-worse a b) → T (no-worse b c) → T (no-worse a c)) →
@@ -31,7 +31,7 @@ lawful-numbers no-worse step reflexive transitive smaller grow keep limit = reco
       let h = keep a b w p in let k = transitive (step a w) (step b w) limit h in (step a w, grind arith, grind arith);
 }
 
--- Totals and classes: no worse is at most, and the step never lessens a number and keeps the order.
+-- totals and classes: no worse is at most, and the step lessens no number and keeps the order
 pub lawful-totals : (step : ℕ → ℕ → ℕ) → ((a w : ℕ) → a ≤ step a w) → ((a b w : ℕ) → a ≤ b → step a w ≤ step b w) →
     (limit : ℕ) → Lawful ℕ ℕ (rules 0 (λ c w. within limit (step c w)) leb ltb)
 lawful-totals step grow keep = lawful-numbers leb step

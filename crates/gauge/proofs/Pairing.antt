@@ -1,11 +1,9 @@
 -- A pair of lawful gauges is lawful.
 use mathlib.Core.Path.{_≡_}
 use mathlib.Core.Bool.{_&&_}
-use mathlib.Core.Logic.{_⊎_, inl, inr}
+use mathlib.Core.Logic.{_⊎_}
 use native.Mathlib.Omega.{arith}
 use lib.Dec.{T}
-use Rattle.std.specs.declared.option.Option.{Option}
-use Rattle.std.specs.declared.option.Option.the-variants.{Some, None}
 use Rattle.gauge.specs.declared.pair.PairCost.{PairCost}
 use Rattle.gauge.specs.declared.pair.PairWeight.{PairWeight}
 use Rattle.gauge.specs.Rules.{Rules, rules, Lawful}
@@ -31,7 +29,7 @@ module _ {C W D V : Type 0} (ρ : Rules C W) (σ : Rules D V) where
   whole a b p q = grind arith
 
   module _ (l : Lawful C W ρ) (m : Lawful D V σ) where
-    -- before is before by the first part, or by the second where the first parts are the same
+    -- before in listing order is before by the first part, or by the second where the first parts are the same
     abbrev Ahead : PairCost C D → PairCost C D → Type 0
     Ahead a b = T (ρ .before (a .first) (b .first)) ⊎ ((a .first ≡ b .first) × T (σ .before (a .second) (b .second)))
 
@@ -41,12 +39,14 @@ module _ {C W D V : Type 0} (ρ : Rules C W) (σ : Rules D V) where
     listed : (a b : PairCost C D) → Ahead a b → T (paired .before a b)
     listed a b h = grind (arith, l .strict)
 
-    on : (a b c : PairCost C D) → Ahead a b → Ahead b c → Ahead a c
-    on a b c h k = grind (arith, l .follows, m .follows)
+    -- this is transitive, and of two different costs one is ahead
+    ahead-on : (a b c : PairCost C D) → Ahead a b → Ahead b c → Ahead a c
+    ahead-on a b c h k = grind (arith, l .follows, m .follows)
 
     apart : (a b : PairCost C D) → (a ≡ b) ⊎ (Ahead a b ⊎ Ahead b a)
     apart a b = grind (arith, same a b, l .total (a .first) (b .first), m .total (a .second) (b .second))
 
+    -- each law of the pair from those of its parts
     pub lawful-pairs : Lawful (PairCost C D) (PairWeight W V) paired
     lawful-pairs = record {
       reflexive = λ a. whole a a (l .reflexive _) (m .reflexive _);
@@ -55,7 +55,7 @@ module _ {C W D V : Type 0} (ρ : Rules C W) (σ : Rules D V) where
           whole a c (l .transitive _ _ _ (x .0) (y .0)) (m .transitive _ _ _ (x .1) (y .1));
       antisymmetric = λ a b p q.
           let x = parts a b p in let y = parts b a q in same a b (l .antisymmetric _ _ (x .0) (y .0)) (m .antisymmetric _ _ (x .1) (y .1));
-      follows = λ a b c p q. listed a c (on a b c (ahead a b p) (ahead b c q));
+      follows = λ a b c p q. listed a c (ahead-on a b c (ahead a b p) (ahead b c q));
       strict = λ a p. grind (arith, l .strict, m .strict);
       total = λ a b. grind (arith, apart a b, listed a b, listed b a);
       better-first = λ a b p q. listed a b (grind (arith, apart a b, l .better-first, m .better-first));

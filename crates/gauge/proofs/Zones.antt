@@ -1,18 +1,16 @@
--- Sets of zones as numbers: what subset and union say of each zone, and the laws of a set.
-use mathlib.Core.Path.{_≡_, refl, sym, _∙_}
-use mathlib.Core.Bool.{true}
-use mathlib.Core.Logic.{_⊎_, inl, inr, ⊎-elim}
-use Prim.Native.Nat.{ℕ, _+_, _*_, _/_, _%_, _^_, _≤_, min, max}
+-- Sets of zones as numbers: what & and | say of each zone, and the laws of a set.
+use mathlib.Core.Path.{_≡_, refl}
+use mathlib.Core.Logic.{⊎-elim}
+use Prim.Native.Nat.{ℕ, _+_, _/_, _%_, _^_, min, max}
 use native.Mathlib.Omega.{arith}
 use lib.Arith.{bin-ind}
 use lib.Bits.{bitAnd, bitOr, and-step, or-step, and-shr, or-shr, and-le-r}
-use lib.Dec.{T, leb, ltb}
+use lib.Dec.{T, ltb, eqb→eq, eqb-refl}
 use Rattle.std.proofs.shelf.Bits.{shr-shr}
-use Rattle.std.proofs.shelf.Tests.{eq-eqb, eqb-true}
-use Rattle.std.proofs.shelf.Ways.{tells}
+use Rattle.std.proofs.shelf.Ways.{tells, decides-eqb, decides-like}
 use Rattle.std.specs.Orderings.{Decides}
 use Rattle.gauge.specs.Rules.{rules, Lawful}
-use Rattle.gauge.specs.Costs.{zone, subset, inside}
+use Rattle.gauge.specs.Costs.{Among, Unites, subset, inside}
 use Rattle.gauge.proofs.Numbers.{lawful-numbers}
 
 -- the digit of each place: of a & b the lesser, of a | b the greater
@@ -22,35 +20,37 @@ and-digit a b k = rw and-shr (omega (arith, and-step (a / 2 ^ k) (b / 2 ^ k)))
 or-digit : (a b k : ℕ) → bitOr a b / 2 ^ k % 2 ≡ max (a / 2 ^ k % 2) (b / 2 ^ k % 2)
 or-digit a b k = rw or-shr (omega (arith, or-step (a / 2 ^ k) (b / 2 ^ k)))
 
--- a | b has exactly the zones of either
-pub union-zones : (a b k : ℕ) → (zone (bitOr a b) k → zone a k ⊎ zone b k) × (zone a k ⊎ zone b k → zone (bitOr a b) k)
-union-zones a b k = let d = or-digit a b k in (λ h. grind arith, λ h. grind arith)
+-- a & b is a exactly if every zone of a is one of b
+pub and-tells : (a b : ℕ) → bitAnd a b ≡ a → Among a b
+and-tells a b e k z = let d = and-digit a b k in grind arith
 
--- if every zone of a is one of b, then a & b is a
-and-same : (a b : ℕ) → ((k : ℕ) → zone a k → zone b k) → bitAnd a b ≡ a
-and-same = bin-ind (λ a. (b : ℕ) → ((k : ℕ) → zone a k → zone b k) → bitAnd a b ≡ a) (λ b h. refl)
+pub and-same : (a b : ℕ) → Among a b → bitAnd a b ≡ a
+and-same = bin-ind (λ a. (b : ℕ) → Among a b → bitAnd a b ≡ a) (λ b h. refl)
     (λ a ih b h.
     let up = ih (b / 2) (λ k z. let e = shr-shr a 1 k in let f = shr-shr b 1 k in let g = h (1 + k) in grind arith) in
     let low = h 0 in let s = and-step a b in grind arith)
 
--- subset tells whether every zone of a is one of b
-pub subset-zones : (a b : ℕ) → Decides (subset a b) ((k : ℕ) → zone a k → zone b k)
-subset-zones a b =
-    (λ e k h. let s = eqb-true (bitAnd a b) a e in let d = and-digit a b k in grind arith, λ h. eq-eqb (bitAnd a b) a (and-same a b h))
+pub subset-decides : (a b : ℕ) → Decides (subset a b) (Among a b)
+subset-decides a b = decides-like (subset a b) (and-tells a b) (and-same a b) (decides-eqb (bitAnd a b) a)
 
--- the same, over a test that is true
-has : (a b : ℕ) → T (subset a b) → (k : ℕ) → zone a k → zone b k
-has a b h = subset-zones a b .0 (grind arith)
+-- a | b has the zones of both, and is among each set that has them
+pub or-unites : (a b : ℕ) → Unites a b (bitOr a b)
+or-unites a b = (λ k z. omega (arith, or-digit a b k), λ k z. omega (arith, or-digit a b k), λ k z. let d = or-digit a b k in grind arith)
 
-every : (a b : ℕ) → ((k : ℕ) → zone a k → zone b k) → T (subset a b)
-every a b h = let e = subset-zones a b .1 h in grind arith
+pub or-least : (a b c : ℕ) → Among a c → Among b c → Among (bitOr a b) c
+or-least a b c p q k z = ⊎-elim (p k) (q k) (or-unites a b .2 k z)
 
--- sets of zones within an allowed set are lawful
+-- sets within an allowed set are lawful
 pub lawful-sets : (allowed : ℕ) → Lawful ℕ ℕ (rules 0 (λ c w. inside allowed (bitOr c w)) subset ltb)
 lawful-sets = lawful-numbers subset bitOr
-    (λ a. every a a (λ k z. z))
-    (λ a b c p q. every a c (λ k z. has b c q k (has a b p k z)))
+    (λ a. test a a (λ k z. z))
+    (λ a b c p q. test a c (λ k z. among b c q k (among a b p k z)))
     (λ a b p. let h = and-le-r a b in grind (arith, tells))
-    (λ a w. every a (bitOr a w) (λ k z. union-zones a w k .1 (inl z)))
-    (λ a b w p. every (bitOr a w) (bitOr b w) (λ k z.
-    union-zones b w k .1 (⊎-elim (λ x. inl (has a b p k x)) inr (union-zones a w k .0 z))))
+    (λ a w. test a (bitOr a w) (or-unites a w .0))
+    (λ a b w p. test (bitOr a w) (bitOr b w) (or-least a w (bitOr b w) (λ k z. or-unites b w .0 k (among a b p k z)) (or-unites b w .1)))
+  where
+    among : (a b : ℕ) → T (subset a b) → Among a b
+    among a b p = and-tells a b (eqb→eq (bitAnd a b) a p)
+
+    test : (a b : ℕ) → Among a b → T (subset a b)
+    test a b h = rw (and-same a b h) (eqb-refl a)

@@ -1,7 +1,8 @@
 ghost use mathlib.Core.Path.{_≡_};
 ghost use lib.Bits.{bitOr};
 ghost use lib.Dec.{ltb};
-ghost use Rattle.gauge.specs.Costs.{inside, subset};
+ghost use Rattle.std.specs.Orderings.{Decides};
+ghost use Rattle.gauge.specs.Costs.{Among, Joined, inside, subset};
 ghost use Rattle.gauge.specs.Limits.{setAt, widestSet};
 use crate::Gauge;
 
@@ -44,7 +45,10 @@ pub impl Gauge for Set as SetGauge {
         0
     }
 
-    fn along(&self, cost: u32, weight: u32) -> Option<u32> {
+    fn along(&self, cost: u32, weight: u32) -> Option<u32>
+        ensures result { λ r. ⌜ r ≡ inside (now (self .entry) .allowed) (bitOr cost weight) ⌝ }
+        ensures zones { λ r. ⌜ Joined (now (self .entry) .allowed) cost weight r ⌝ }
+    {
         let zones = cost | weight;
         if zones & self.allowed == zones {
             Some(zones)
@@ -53,7 +57,10 @@ pub impl Gauge for Set as SetGauge {
         }
     }
 
-    fn no_worse(a: u32, b: u32) -> bool {
+    fn no_worse(a: u32, b: u32) -> bool
+        ensures result { λ r. ⌜ r ≡ subset a b ⌝ }
+        ensures zones { λ r. ⌜ Decides r (Among a b) ⌝ }
+    {
         a & b == a
     }
 
