@@ -1,6 +1,6 @@
 -- The listing of a plan file.
 use mathlib.Core.Path.{_≡_}
-use mathlib.Core.List.{List, []}
+use mathlib.Core.List.{List}
 use mathlib.Core.Bool.{cond}
 use Prim.Native.Nat.{ℕ}
 use lib.Chars.{codes}
@@ -10,6 +10,7 @@ use Rattle.std.specs.declared.result.Result.{Result}
 use Rattle.std.specs.declared.result.Result.the-variants.{Ok, Err}
 use Rattle.fault.specs.declared.file.FileFault.{FileFault}
 use Rattle.fault.specs.declared.plan.PlanFault.{PlanFault}
+use Rattle.fault.specs.declared.row.Fault.{Fault}
 use Rattle.fault.specs.Rows.{fileRow, planRow}
 use Rattle.plan.specs.declared.runs.Run.{Run}
 use Rattle.plan.specs.Make.{planAnswer, Drawn}
@@ -22,37 +23,46 @@ use Rattle.listing.specs.declared.cause.Cause.the-variants as cause
 use Rattle.listing.specs.Lines.{refusedText, planText}
 
 -- the plan that was made, as text, or why it was refused
-abbrev pub planListed : {W : Type 0} → (W → List ℕ) → List ℕ → Result (Drawn W) PlanFault → Result (List ℕ) Cause
+abbrev pub planListed : {W : Type 0} → (W → List ℕ) → List ℕ → Result (Drawn W) PlanFault → Result (List ℕ) Fault
 planListed numbers word (Ok plan) = Ok (planText numbers word (plan .points) (plan .runs))
-planListed numbers word (Err e) = Err (cause.Plan e)
+planListed numbers word (Err e) = Err (planRow e)
 
 -- the plan over the runs that were read, or why the file was refused
-abbrev pub runsListed : {W : Type 0} → (W → List ℕ) → List ℕ → ℕ → Result (List (Run W)) FileFault → Result (List ℕ) Cause
+abbrev pub runsListed : {W : Type 0} → (W → List ℕ) → List ℕ → ℕ → Result (List (Run W)) FileFault → Result (List ℕ) Fault
 runsListed numbers word points (Ok runs) = planListed numbers word (planAnswer points runs)
-runsListed numbers word points (Err e) = Err (cause.File e)
+runsListed numbers word points (Err e) = Err (fileRow e)
 
 -- a file of one kind, read into a table of so many places
-abbrev pub listAnswer : {W : Type 0} → ℕ → (ℕ → ℕ → ℕ → Result W WeightFault) → (W → List ℕ) → List ℕ → List ℕ → ℕ → Result (List ℕ) Cause
+abbrev pub listAnswer : {W : Type 0} → ℕ → (ℕ → ℕ → ℕ → Result W WeightFault) → (W → List ℕ) → List ℕ → List ℕ → ℕ → Result (List ℕ) Fault
 listAnswer kind weighed numbers word bs room = runsListed numbers word (u16le bs 0) (fileRuns kind weighed bs room)
 
--- r is the answer, or says that there was no memory
-abbrev pub Answers : {Z : Type 0} → Result (String Z) Cause → Result (List ℕ) Cause → Type 0
-Answers (Ok s) answer = answer ≡ Ok (string-bytes s)
-Answers (Err cause.Memory) answer = Unit {0}
-Answers (Err (cause.File e)) answer = answer ≡ Err (cause.File e)
-Answers (Err (cause.Plan e)) answer = answer ≡ Err (cause.Plan e)
+-- a cable file: kind 1
+unfoldable pub cableAnswer : List ℕ → Result (List ℕ) Fault
+cableAnswer bs = listAnswer 1 cableWeight three (codes "cable") bs 1024
+
+-- a drive file: kind 2
+unfoldable pub driveAnswer : List ℕ → Result (List ℕ) Fault
+driveAnswer bs = listAnswer 2 driveWeight three (codes "drive") bs 1024
 
 -- the text printed: the listing, or the refusal as line 0
-abbrev pub printed : {A : Type 0} → (A → List ℕ) → Result A Cause → List ℕ
-printed text (Ok listing) = text listing
-printed text (Err (cause.File e)) = refusedText 0 (fileRow e)
-printed text (Err (cause.Plan e)) = refusedText 0 (planRow e)
-printed text (Err cause.Memory) = []
-
--- a file of one kind, over a table of 1,024 places, as it is printed
-abbrev pub listed : {W : Type 0} → ℕ → (ℕ → ℕ → ℕ → Result W WeightFault) → (W → List ℕ) → List ℕ → List ℕ → List ℕ
-listed kind weighed numbers word bs = printed (λ text. text) (listAnswer kind weighed numbers word bs 1024)
+abbrev pub printed : Result (List ℕ) Fault → List ℕ
+printed (Ok text) = text
+printed (Err fault) = refusedText 0 fault
 
 -- drive if the kind is 2, else cable
 abbrev pub listText : List ℕ → List ℕ
-listText bs = cond (isDrive bs) (listed 2 driveWeight three (codes "drive") bs) (listed 1 cableWeight three (codes "cable") bs)
+listText bs = cond (isDrive bs) (printed (driveAnswer bs)) (printed (cableAnswer bs))
+
+-- r is the answer, or says that there was no memory
+abbrev pub Answers : {Z : Type 0} → Result (String Z) Cause → Result (List ℕ) Fault → Type 0
+Answers (Ok s) answer = answer ≡ Ok (string-bytes s)
+Answers (Err (cause.File e)) answer = answer ≡ Err (fileRow e)
+Answers (Err (cause.Plan e)) answer = answer ≡ Err (planRow e)
+Answers (Err cause.Memory) answer = Unit {0}
+
+-- the text says what r says; no text says that there was no memory
+abbrev pub Told : {Z : Type 0} → Result (String Z) Cause → List ℕ → Type 0
+Told (Ok s) text = text ≡ string-bytes s
+Told (Err (cause.File e)) text = text ≡ refusedText 0 (fileRow e)
+Told (Err (cause.Plan e)) text = text ≡ refusedText 0 (planRow e)
+Told (Err cause.Memory) text = ⊥

@@ -5,7 +5,7 @@ ghost use lib.ListN.{length, take};
 ghost use Rattle.std.specs.Of.String.{string-bytes};
 ghost use Rattle.std.specs.Vec.{made};
 ghost use Rattle.plan.specs.Make.{planAnswer};
-ghost use Rattle.listing.specs.Report.{Answers, listAnswer, listText, planListed, printed};
+ghost use Rattle.listing.specs.Report.{Answers, Told, cableAnswer, driveAnswer, listAnswer, listText, planListed};
 use crate::cause::Cause;
 use crate::cause::CauseFromFile;
 use crate::cause::CauseFromFmt;
@@ -34,28 +34,14 @@ pub fn list_plan(heap: Global, bytes: &[u8]) -> Result<String, AllocError>
     ensures { λ r. ⌜ made r (λ s. string-bytes s ≡ listText (now (bytes .entry))) ⌝ }
 {
     if planfile::is_drive(bytes) {
-        let blank = PairWeight {
-            first: 0,
-            second: PairWeight {
-                first: 0,
-                second: 0,
-            },
-        };
-        return told(heap, list_as::<Drive>(heap, bytes, "drive", blank));
+        return told(heap, list_drive(heap, bytes));
     }
-    let blank = PairWeight {
-        first: 0,
-        second: PairWeight {
-            first: 0,
-            second: 0,
-        },
-    };
-    told(heap, list_as::<Cable>(heap, bytes, "cable", blank))
+    told(heap, list_cable(heap, bytes))
 }
 
 // The text, or the refusal as line 0.
 fn told(heap: Global, listed: Result<String, Cause>) -> Result<String, AllocError>
-    ensures { λ r. ⌜ made r (λ s. string-bytes s ≡ printed string-bytes listed) ⌝ }
+    ensures { λ r. ⌜ made r (λ s. Told listed (string-bytes s)) ⌝ }
 {
     match listed {
         Ok(text) => Ok(text),
@@ -65,21 +51,40 @@ fn told(heap: Global, listed: Result<String, Cause>) -> Result<String, AllocErro
     }
 }
 
-// The listing of a file of one kind; `blank` stands in the run table before it is filled.
-fn list_as<K: Kind>(
-    heap: Global,
-    bytes: &[u8],
-    word: &str,
-    blank: K::Weight,
-) -> Result<String, Cause>
-    ensures { λ r. ⌜ Answers r (listAnswer (K·Kind .number) (K·Kind .weighed) (K·Kind .numbers) (now (word .entry)) (now (bytes .entry)) 1024) ⌝ }
+fn list_cable(heap: Global, bytes: &[u8]) -> Result<String, Cause>
+    ensures { λ r. ⌜ Answers r (cableAnswer (now (bytes .entry))) ⌝ }
 {
+    let weight = PairWeight {
+        first: 0,
+        second: PairWeight {
+            first: 0,
+            second: 0,
+        },
+    };
     let mut table = [Run {
         tail: 0,
         head: 0,
-        weight: blank,
+        weight,
     }; MOST_RUNS];
-    list_in::<K>(heap, bytes, word, &mut table)
+    list_in::<Cable>(heap, bytes, "cable", &mut table)
+}
+
+fn list_drive(heap: Global, bytes: &[u8]) -> Result<String, Cause>
+    ensures { λ r. ⌜ Answers r (driveAnswer (now (bytes .entry))) ⌝ }
+{
+    let weight = PairWeight {
+        first: 0,
+        second: PairWeight {
+            first: 0,
+            second: 0,
+        },
+    };
+    let mut table = [Run {
+        tail: 0,
+        head: 0,
+        weight,
+    }; MOST_RUNS];
+    list_in::<Drive>(heap, bytes, "drive", &mut table)
 }
 
 // The listing of a file of one kind, by way of a run table.

@@ -1,0 +1,7 @@
+use borrow.Author.Needs.{needs}
+use Rattle.listing.specs.Report.{cableAnswer}
+use Rattle.listing.proofs.report.list_cable.Needs as need
+
+pub returns : need.returns
+unfolding cableAnswer
+returns c = c .list-in .ensures
