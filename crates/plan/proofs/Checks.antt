@@ -11,6 +11,7 @@ use Rattle.std.specs.Finite.{nth}
 use Rattle.std.specs.declared.option.Option.the-variants.{Some}
 use Rattle.std.specs.Orderings.{Decides}
 use Rattle.std.specs.Results.{isOk}
+use Rattle.std.specs.Vec.{made}
 use Rattle.std.specs.declared.result.Result.{Result}
 use Rattle.std.specs.declared.result.Result.the-variants.{Ok, Err}
 use Rattle.fault.specs.declared.plan.PlanFault.{PlanFault}
@@ -18,7 +19,8 @@ use Rattle.plan.specs.declared.plans.Plan.{Plan}
 use Rattle.plan.specs.declared.runs.Run.{Run}
 use Rattle.plan.specs.Sound.{tails, Ends, Ordered, Sound}
 use Rattle.plan.specs.Make.{runsAnswer, checkAnswer, drawnOnce, planAnswer, told}
-use Rattle.plan.proofs.Tails.{rest-ordered}
+use Rattle.plan.specs.Leave.{parts}
+use Rattle.plan.proofs.Tails.{rest-ordered, parts-whole}
 
 -- one run more is checked
 pub runs-more : {W : Type 0} (points last : ℕ) (xs : List (Run W)) (k : ℕ) (r : Run W) → k < length xs → r ≡ getD xs k r → runsAnswer points last k (drop k xs) ≡ runsAnswer points last k (r ∷ drop (k + 1) xs)
@@ -92,3 +94,8 @@ told-sound points xs (Ok p) e = by (checkAnswer points xs) refl e
     by (Ok u) is same = ((λ t. check-sound points xs is), (λ s. refl))
     by (Err f) is same = grind arith
 told-sound points xs (Err f) e = ((λ t. grind arith), (λ s. let fine = sound-check points xs s in grind arith))
+
+-- the parts of a plan that was made are its table
+pub made-parts : {W : Type 0} (r : Result (Plan W) PlanFault) → made r (λ plan. parts (plan .points) (plan .runs .now) ≡ plan .runs .now)
+made-parts (Ok plan) = parts-whole (plan .points) (plan .runs .now) (plan .ends)
+made-parts (Err f) = tt

@@ -1,18 +1,21 @@
 -- Where the first tail not below a point stands in a table in order of tail.
 use mathlib.Core.Path.{_≡_, refl, sym, ap, _∙_}
-use mathlib.Core.List.{List, [], _∷_}
+use mathlib.Core.List.{List, [], _∷_, _++_}
 use mathlib.Core.Logic.{_⊎_, inl, inr}
 use Prim.Native.Nat.{ℕ, zero, suc, _+_, _-_, _≤_, _<_, suc-le-suc}
 use native.Mathlib.Omega.{arith}
 use lib.ListN.{length, getD, take, drop}
-use Rattle.std.proofs.shelf.Lists.{length-take-le, length-drop}
+use lib.Seq.{take-add}
+use Rattle.std.proofs.shelf.Lists.{drop-drop, length-take-le, length-drop, take-all}
 use Rattle.std.proofs.shelf.Ways.{tells}
 use Rattle.std.proofs.shelf.Tests.{cases-lt}
 use Rattle.std.specs.Finite.{nth}
+use Rattle.std.specs.Iters.{counting}
+use Rattle.std.specs.Joined.{joined}
 use Rattle.std.specs.declared.option.Option.the-variants.{Some}
 use Rattle.plan.specs.declared.runs.Run.{Run}
-use Rattle.plan.specs.Sound.{tails, Ordered}
-use Rattle.plan.specs.Leave.{firstFrom, leavingPart, Leave}
+use Rattle.plan.specs.Sound.{tails, Ends, Ordered}
+use Rattle.plan.specs.Leave.{firstFrom, leavingPart, Leave, parts}
 
 -- the tail of a run of the table
 pub tail-getD : {W : Type 0} (xs : List (Run W)) (k : ℕ) (d : Run W) → k < length xs → getD xs k d .tail ≡ getD (tails xs) k 0
@@ -51,14 +54,27 @@ first-upto point (x ∷ xs) zero h l = grind (arith, tells)
 first-upto point (x ∷ xs) (suc k) h l = let ih = first-upto point xs k (omega arith) l in grind (arith, tells)
 
 -- a higher point has its first tail no earlier
-pub first-rises : {W : Type 0} (point : ℕ) (xs : List (Run W)) → firstFrom point xs ≤ firstFrom (point + 1) xs
-first-rises point [] = omega arith
-first-rises point (x ∷ xs) = let ih = first-rises point xs in grind (arith, tells)
+pub first-rises : {W : Type 0} (point n : ℕ) (xs : List (Run W)) → firstFrom point xs ≤ firstFrom (point + n) xs
+first-rises point n [] = omega arith
+first-rises point n (x ∷ xs) = let ih = first-rises point n xs in grind (arith, tells)
+
+-- no tail is below 0
+first-none : {W : Type 0} (xs : List (Run W)) → firstFrom 0 xs ≡ 0
+first-none [] = refl
+first-none (x ∷ xs) = grind (arith, tells)
+
+-- every tail is below the number of points
+first-all : {W : Type 0} (points : ℕ) (xs : List (Run W)) → Ends points xs → firstFrom points xs ≡ length xs
+first-all points [] ends = refl
+first-all points (x ∷ xs) ends =
+    let low = ends 0 x refl .0 in
+    let ih = first-all points xs (λ k r e. ends (suc k) r e) in
+    grind (arith, tells)
 
 -- the length of the part that leaves a point
 pub leaving-length : {W : Type 0} (point : ℕ) (xs : List (Run W)) → firstFrom point xs + length (leavingPart point xs) ≡ firstFrom (point + 1) xs
 leaving-length point xs =
-    let up = first-rises point xs in
+    let up = first-rises point 1 xs in
     let in-table = first-within (point + 1) xs in
     let rest = length-drop (firstFrom point xs) xs in
     let here = length-take-le (firstFrom (point + 1) xs - firstFrom point xs) (drop (firstFrom point xs) xs) (omega arith) in
@@ -84,3 +100,36 @@ leaves point xs o k r e = (inside, outside)
         by (inl below) near = let p = first-past point xs k o (at .0) below in omega arith
         by (inr from) (inl upto) = omega (arith, at)
         by (inr from) (inr above) = let p = first-upto (point + 1) xs k (at .0) above in omega (arith, end)
+
+-- two parts that meet are one
+meet : {X : Type 0} (xs : List X) (a b c : ℕ) → a ≤ b → b ≤ c → take (b - a) (drop a xs) ++ take (c - b) (drop b xs) ≡ take (c - a) (drop a xs)
+meet xs a b c p q =
+    let there : a + (b - a) ≡ b = omega arith in
+    let all : b - a + (c - b) ≡ c - a = omega arith in
+    ap (λ n. take (b - a) (drop a xs) ++ take (c - b) (drop n xs)) (sym there)
+    ∙ ap (λ ys. take (b - a) (drop a xs) ++ take (c - b) ys) (sym (drop-drop (b - a) a xs))
+    ∙ sym (take-add (b - a) (c - b) (drop a xs)) ∙ ap (λ n. take n (drop a xs)) all
+
+-- the parts of n points from one on
+parts-from : {W : Type 0} (xs : List (Run W)) (n point : ℕ) →
+    joined (λ p. leavingPart p xs) (counting point n) ≡ take (firstFrom (point + n) xs - firstFrom point xs) (drop (firstFrom point xs) xs)
+parts-from xs zero point =
+    let none : firstFrom point xs - firstFrom point xs ≡ 0 = omega arith in
+    let here : point ≡ point + 0 = omega arith in
+    ap (λ n. take n (drop (firstFrom point xs) xs)) (sym none) ∙ ap (λ p. take (firstFrom p xs - firstFrom point xs) (drop (firstFrom point xs) xs)) here
+parts-from xs (suc n) point =
+    let ih = parts-from xs n (point + 1) in
+    let up = first-rises point 1 xs in
+    let on = first-rises (point + 1) n xs in
+    let there : point + 1 + n ≡ point + suc n = omega arith in
+    ap (λ ys. leavingPart point xs ++ ys) ih
+    ∙ meet xs (firstFrom point xs) (firstFrom (point + 1) xs) (firstFrom (point + 1 + n) xs) up on
+    ∙ ap (λ p. take (firstFrom p xs - firstFrom point xs) (drop (firstFrom point xs) xs)) there
+
+-- in a table whose tails are all below a number, the parts below it are the table
+pub parts-whole : {W : Type 0} (points : ℕ) (xs : List (Run W)) → Ends points xs → parts points xs ≡ xs
+parts-whole points xs ends =
+    let all : firstFrom (0 + points) xs - firstFrom 0 xs ≡ length xs =
+    ap (λ n. firstFrom (0 + points) xs - n) (first-none xs) ∙ (let here : 0 + points ≡ points = omega arith in ap (λ p. firstFrom p xs - 0) here) ∙ (let end = first-all points xs ends in omega arith) in
+    parts-from xs points 0
+    ∙ ap (λ n. take n (drop (firstFrom 0 xs) xs)) all ∙ ap (λ n. take (length xs) (drop n xs)) (first-none xs) ∙ take-all (length xs) xs (omega arith)

@@ -7,6 +7,8 @@ use denote.Ref.{RefT}
 use lib.Dec.{ltb}
 use lib.ListN.{length, take, drop}
 use Rattle.std.specs.Finite.{nth}
+use Rattle.std.specs.Iters.{counting}
+use Rattle.std.specs.Joined.{joined}
 use Rattle.std.specs.declared.option.Option.the-variants.{Some}
 use Rattle.std.specs.declared.result.Result.{Result}
 use Rattle.std.specs.declared.result.Result.the-variants.{Ok, Err}
@@ -35,3 +37,7 @@ part (Err e) = Err e
 abbrev pub Leave : {W : Type 0} → List (Run W) → ℕ → ℕ → ℕ → Type 0
 Leave {W} runs point first count = (k : ℕ) (r : Run W) → nth runs k ≡ Some r →
     (r .tail ≡ point → (first ≤ k) × (k < first + count)) × (first ≤ k → k < first + count → r .tail ≡ point)
+
+-- the parts that leave the points, one after the other
+abbrev pub parts : {W : Type 0} → ℕ → List (Run W) → List (Run W)
+parts points runs = joined (λ point. leavingPart point runs) (counting 0 points)

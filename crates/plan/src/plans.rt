@@ -4,6 +4,7 @@ ghost use Rattle.plan.specs.Sound.{Ends, Few, Ordered};
 use crate::runs::Run;
 
 mod ask;
+mod fields;
 mod make;
 
 // A checked plan over a lent run table.

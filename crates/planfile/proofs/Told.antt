@@ -1,5 +1,5 @@
 -- What the answer of a reading tells of the runs read.
-use mathlib.Core.Path.{_≡_, refl, sym, ap, _∙_}
+use mathlib.Core.Path.{_≡_, refl, ap, subst, _∙_}
 use mathlib.Core.List.{List, [], _∷_, _++_}
 use Prim.Native.Nat.{ℕ, zero, suc, _+_, _≤_}
 use native.Mathlib.Omega.{arith}
@@ -22,7 +22,7 @@ header-told kind bs room h e = (grind (arith, tells), grind (arith, tells))
 
 module _ {W : Type 0} (weighed : ℕ → ℕ → ℕ → Result W WeightFault) (bs : List ℕ) where
   -- as many runs are read as were asked for
-  runs-length : (r n k : ℕ) (runs : List (Run W)) → runsFrom weighed bs r n k ≡ Ok runs → length runs ≡ n
+  pub runs-length : (r n k : ℕ) (runs : List (Run W)) → runsFrom weighed bs r n k ≡ Ok runs → length runs ≡ n
   runs-length r zero k runs e = grind arith
   runs-length r (suc n) k runs e = by (λ xs. runs-length r n (k + 1) xs) (runAt weighed bs r k) (runsFrom weighed bs r n (k + 1)) refl e
     where
@@ -48,28 +48,32 @@ module _ {W : Type 0} (weighed : ℕ → ℕ → ℕ → Result W WeightFault) (
         by (Ok h) same = late h (runsFrom weighed bs (h .runs) (h .runs) 0) same
         by (Err g) same = grind arith
 
-    -- an accepted file has runs, as many as it says
-    pub accepted-runs : (h : Header) → fileAnswer kind weighed bs room ≡ Ok h →
-        (runs : List (Run W)) × (fileRuns kind weighed bs room ≡ Ok runs) × (length runs ≡ h .runs) × (h .points ≡ u16le bs 0) × (h .runs ≤ room)
-    unfolding fileAnswer fileRuns
-    accepted-runs h e = by (headerAnswer kind bs room) refl e
+    -- an accepted file has an accepted header and runs
+    pub accepted-parts : (h : Header) → fileAnswer kind weighed bs room ≡ Ok h →
+        (runs : List (Run W)) × (headerAnswer kind bs room ≡ Ok h) × (runsFrom weighed bs (h .runs) (h .runs) 0 ≡ Ok runs)
+    unfolding fileAnswer
+    accepted-parts h e = by (headerAnswer kind bs room) refl e
       where
         late : (g : Header) → headerAnswer kind bs room ≡ Ok g → (b : Result (List (Run W)) FileFault) → runsFrom weighed bs (g .runs) (g .runs) 0 ≡ b →
-            andThen (done b) (λ _. Ok g) ≡ Ok h →
-            (runs : List (Run W)) × (runsFrom weighed bs (g .runs) (g .runs) 0 ≡ Ok runs) × (length runs ≡ h .runs) × (h .points ≡ u16le bs 0) × (h .runs ≤ room)
+            andThen (done b) (λ _. Ok g) ≡ Ok h → (runs : List (Run W)) × (headerAnswer kind bs room ≡ Ok h) × (runsFrom weighed bs (h .runs) (h .runs) 0 ≡ Ok runs)
         late g head (Ok xs) is same =
-            let t = header-told kind bs room g head in
-            let n = runs-length (g .runs) (g .runs) 0 xs is in
             let it : g ≡ h = cc in
-            let points = ap (λ (x : Header). x .points) it in
-            let runs = ap (λ (x : Header). x .runs) it in
-            (xs, is, omega arith, omega arith, omega arith)
+            subst (λ (x : Header). (runs : List (Run W)) × (headerAnswer kind bs room ≡ Ok x) × (runsFrom weighed bs (x .runs) (x .runs) 0 ≡ Ok runs)) it (xs, head, is)
         late g head (Err f) is same = grind arith
 
         by : (a : Result Header FileFault) → headerAnswer kind bs room ≡ a → andThen a (λ h. andThen (done (runsFrom weighed bs (h .runs) (h .runs) 0)) (λ _. Ok h)) ≡ Ok h →
-            (runs : List (Run W)) × (andThen a (λ h. runsFrom weighed bs (h .runs) (h .runs) 0) ≡ Ok runs) × (length runs ≡ h .runs) × (h .points ≡ u16le bs 0) × (h .runs ≤ room)
+            (runs : List (Run W)) × (headerAnswer kind bs room ≡ Ok h) × (runsFrom weighed bs (h .runs) (h .runs) 0 ≡ Ok runs)
         by (Ok g) head same = late g head (runsFrom weighed bs (g .runs) (g .runs) 0) refl same
         by (Err f) head same = grind arith
+
+    -- the runs of an accepted file are as many as it says, and have room
+    pub accepted-runs : (h : Header) → fileAnswer kind weighed bs room ≡ Ok h →
+        (runs : List (Run W)) × (fileRuns kind weighed bs room ≡ Ok runs) × (length runs ≡ h .runs) × (h .points ≡ u16le bs 0) × (h .runs ≤ room)
+    unfolding fileRuns
+    accepted-runs h e =
+        let a = accepted-parts h e in
+        let t = header-told kind bs room h (a .1) in
+        (a .0, ap (λ x. andThen x (λ h. runsFrom weighed bs (h .runs) (h .runs) 0)) (a .1) ∙ a .2, runs-length (h .runs) (h .runs) 0 (a .0) (a .2), t .0, t .1)
 
   -- the runs stand in the first places of the table
   pub table-runs : (kind : ℕ) (table runs : List (Run W)) → fileRuns kind weighed bs (length table) ≡ Ok runs → take (length runs) (fileTable kind weighed bs table) ≡ runs

@@ -1,3 +1,4 @@
 pub mod Bytes
 pub mod Weights
 pub mod File
+pub mod Meaning

@@ -17,6 +17,11 @@ use gauge::sum::SumGauge;
 use gauge::worst::Worst;
 use gauge::worst::WorstGauge;
 
+// The numbers of the kinds in a file.
+const CABLE: u16 = 1;
+
+pub(crate) const DRIVE: u16 = 2;
+
 // Why a number is no weight.
 #[derive(Clone, Copy)]
 pub enum WeightFault {
@@ -78,7 +83,7 @@ pub impl Kind for Cable as CableKind {
     ghost numbers = { three };
 
     fn number() -> u16 {
-        1
+        CABLE
     }
 
     fn weigh(a: u32, b: u32, c: u32) -> Result<CableWeight, WeightFault> {
@@ -106,7 +111,7 @@ pub impl Kind for Drive as DriveKind {
     ghost numbers = { three };
 
     fn number() -> u16 {
-        2
+        DRIVE
     }
 
     fn weigh(a: u32, b: u32, c: u32) -> Result<DriveWeight, WeightFault> {

@@ -3,8 +3,11 @@ ghost use mathlib.Core.Path.{_≡_};
 ghost use mathlib.Core.Bool.{true};
 ghost use Prim.Native.Nat.{_≤_, _<_};
 ghost use lib.ListN.{length};
+ghost use Rattle.std.specs.Orderings.{Decides};
 ghost use Rattle.std.specs.Results.{isOk};
+ghost use Rattle.planfile.specs.Meaning.{Readable, Placed};
 ghost use Rattle.planfile.specs.File.{size, isDrive, headerAnswer, runAt, runsFrom, done, filled, fileAnswer, fileTable};
+use crate::kinds::DRIVE;
 use crate::kinds::Kind;
 use crate::kinds::WeightFault;
 use crate::numbers::u16_at;
@@ -28,13 +31,15 @@ pub fn is_drive(bytes: &[u8]) -> bool
     if bytes.len() < 6 {
         return false;
     }
-    u16_at(bytes, 4) == 2
+    u16_at(bytes, 4) == DRIVE
 }
 
 // Reads a file of one kind into the first places of the run table.
 pub fn read<K: Kind>(bytes: &[u8], table: &mut [Run<K::Weight>]) -> Result<Header, FileFault>
     ensures answer { λ r. ⌜ r ≡ fileAnswer (K·Kind .number) (K·Kind .weighed) (now (bytes .entry)) (length (now (table .entry))) ⌝ }
     ensures after { λ _. ⌜ now (table .exit) ≡ fileTable (K·Kind .number) (K·Kind .weighed) (now (bytes .entry)) (now (table .entry)) ⌝ }
+    ensures readable { λ r. ⌜ Decides (isOk r) (Readable (K·Kind .number) (K·Kind .weighed) (now (bytes .entry)) (length (now (table .entry)))) ⌝ }
+    ensures placed { λ r. ⌜ Placed (K·Kind .weighed) (now (bytes .entry)) r (now (table .entry)) (now (table .exit)) ⌝ }
 {
     let header = read_header(bytes, K::number(), table.len())?;
     check_weights::<K>(bytes, header.runs)?;

@@ -9,20 +9,6 @@ use crate::runs::Run;
 use fault::PlanFault;
 
 impl<'a, W: Copy> Plan<'a, W> {
-    // The number of points.
-    pub fn points(&self) -> usize
-        ensures { λ r. ⌜ r ≡ now (self .entry) .points ⌝ }
-    {
-        self.points
-    }
-
-    // The run table.
-    pub fn runs(&self) -> &'a [Run<W>]
-        ensures { λ r. ⌜ now r ≡ now (now (self .entry) .runs) ⌝ }
-    {
-        self.runs
-    }
-
     // The number of the first run whose tail is not below the point, or the number of runs.
     pub fn first_from(&self, point: usize) -> usize
         ensures { λ r. ⌜ r ≡ firstFrom point (now (now (self .entry) .runs)) ⌝ }

@@ -1,6 +1,8 @@
 ghost use mathlib.Core.Path.{_≡_};
 ghost use Rattle.std.specs.Orderings.{Decides};
 ghost use Rattle.std.specs.Results.{isOk};
+ghost use Rattle.std.specs.Vec.{made};
+ghost use Rattle.plan.specs.Leave.{parts};
 ghost use Rattle.plan.specs.Make.{runsAnswer, checkAnswer, planAnswer, told};
 ghost use Rattle.plan.specs.Sound.{Sound};
 use crate::MOST_POINTS;
@@ -14,6 +16,7 @@ impl<'a, W: Copy> Plan<'a, W> {
     pub fn new(points: usize, runs: &'a [Run<W>]) -> Result<Plan<'a, W>, PlanFault>
         ensures answer { λ r. ⌜ told r ≡ planAnswer points (now (runs .entry)) ⌝ }
         ensures sound { λ r. ⌜ Decides (isOk r) (Sound points (now (runs .entry))) ⌝ }
+        ensures parts { λ r. ⌜ made r (λ plan. parts (plan .points) (now (plan .runs)) ≡ now (plan .runs)) ⌝ }
     {
         check(points, runs)?;
         Ok(Plan { points, runs })

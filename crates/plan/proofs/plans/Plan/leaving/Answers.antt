@@ -9,7 +9,7 @@ use Rattle.plan.proofs.plans.Plan.leaving.Needs as need
 
 pub between-requires : need.between-requires
 between-requires g c κs =
-    let up = first-rises (c .args .point) (c .args .self .now .runs .now) in
+    let up = first-rises (c .args .point) 1 (c .args .self .now .runs .now) in
     let in-table = first-within (c .args .point + 1) (c .args .self .now .runs .now) in
     (omega arith, omega arith)
 
