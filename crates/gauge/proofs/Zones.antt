@@ -9,9 +9,9 @@ use lib.Dec.{T, ltb, eqb→eq, eqb-refl}
 use Rattle.std.proofs.shelf.Bits.{shr-shr}
 use Rattle.std.proofs.shelf.Ways.{tells, decides-eqb, decides-like}
 use Rattle.std.specs.Orderings.{Decides}
-use Rattle.gauge.specs.Rules.{rules, Lawful}
+use Rattle.gauge.specs.Laws.{Carries, Compares}
 use Rattle.gauge.specs.Costs.{Among, Unites, subset, inside}
-use Rattle.gauge.proofs.Numbers.{lawful-numbers}
+use Rattle.gauge.proofs.Numbers.{carries-numbers, compares-numbers}
 
 -- the digit of each place: of a & b the lesser, of a | b the greater
 and-digit : (a b k : ℕ) → bitAnd a b / 2 ^ k % 2 ≡ min (a / 2 ^ k % 2) (b / 2 ^ k % 2)
@@ -40,17 +40,21 @@ or-unites a b = (λ k z. omega (arith, or-digit a b k), λ k z. omega (arith, or
 pub or-least : (a b c : ℕ) → Among a c → Among b c → Among (bitOr a b) c
 or-least a b c p q k z = ⊎-elim (p k) (q k) (or-unites a b .2 k z)
 
--- sets within an allowed set are lawful
-pub lawful-sets : (allowed : ℕ) → Lawful ℕ ℕ (rules 0 (λ c w. inside allowed (bitOr c w)) subset ltb)
-lawful-sets = lawful-numbers subset bitOr
-    (λ a. test a a (λ k z. z))
-    (λ a b c p q. test a c (λ k z. among b c q k (among a b p k z)))
-    (λ a b p. let h = and-le-r a b in grind (arith, tells))
+-- the test of Among, as the laws have it
+among : (a b : ℕ) → T (subset a b) → Among a b
+among a b p = and-tells a b (eqb→eq (bitAnd a b) a p)
+
+test : (a b : ℕ) → Among a b → T (subset a b)
+test a b h = rw (and-same a b h) (eqb-refl a)
+
+within-all : (a b c : ℕ) → T (subset a b) → T (subset b c) → T (subset a c)
+within-all a b c p q = test a c (λ k z. among b c q k (among a b p k z))
+
+-- sets compare lawfully, and unite lawfully within an allowed set
+pub compares-sets : Compares ℕ subset ltb
+compares-sets = compares-numbers subset within-all (λ a. test a a (λ k z. z)) (λ a b p. let h = and-le-r a b in grind (arith, tells))
+
+pub carries-sets : (allowed : ℕ) → Carries ℕ ℕ subset (λ c w. inside allowed (bitOr c w))
+carries-sets = carries-numbers subset within-all bitOr
     (λ a w. test a (bitOr a w) (or-unites a w .0))
     (λ a b w p. test (bitOr a w) (bitOr b w) (or-least a w (bitOr b w) (λ k z. or-unites b w .0 k (among a b p k z)) (or-unites b w .1)))
-  where
-    among : (a b : ℕ) → T (subset a b) → Among a b
-    among a b p = and-tells a b (eqb→eq (bitAnd a b) a p)
-
-    test : (a b : ℕ) → Among a b → T (subset a b)
-    test a b h = rw (and-same a b h) (eqb-refl a)

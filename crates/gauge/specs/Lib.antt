@@ -1,4 +1,4 @@
-pub mod Rules
+pub mod Laws
 pub mod Costs
 pub mod Pairs
 pub mod Limits

@@ -1,5 +1,8 @@
 -- The cost of a pair of gauges, part by part.
+use mathlib.Core.Path.{_≡_}
 use mathlib.Core.Bool.{Bool, not, _&&_, _||_}
+use mathlib.Core.Logic.{_⊎_}
+use lib.Dec.{T}
 use Rattle.std.specs.declared.option.Option.{Option}
 use Rattle.std.specs.declared.option.Option.the-variants.{Some, None}
 use Rattle.gauge.specs.declared.pair.PairCost.{PairCost}
@@ -10,7 +13,11 @@ both None b = None
 both (Some a) None = None
 both (Some a) (Some b) = Some (record { first = a; second = b })
 
--- before by the first part, or the first parts are level and before by the second:
+-- a comes before b by the first part, or the first parts are the same and it does by the second
+abbrev pub Ahead : {A B : Type 0} → (A → A → Bool) → (B → B → Bool) → PairCost A B → PairCost A B → Type 0
+Ahead before₁ before₂ a b = T (before₁ (a .first) (b .first)) ⊎ ((a .first ≡ b .first) × T (before₂ (a .second) (b .second)))
+
+-- the test of Ahead: before by the first part, or the first parts are level and before by the second:
 -- given whether the first part is before, whether it is after, and whether the second part is before
 abbrev pub lexical : Bool → Bool → Bool → Bool
 lexical before after then = before || (not after && then)

@@ -8,7 +8,7 @@ pub mod worst;
 ghost use mathlib.Core.Path.{_≡_};
 ghost use mathlib.Core.Bool.{Bool};
 ghost use Rattle.std.specs.declared.option.Option.{Option};
-ghost use Rattle.gauge.specs.Rules.{rules, Lawful};
+ghost use Rattle.gauge.specs.Laws.{Carries, Compares};
 
 // A gauge at its limits. Only going along depends on the limits; the rest depends on its arguments alone.
 pub trait Gauge {
@@ -28,8 +28,11 @@ pub trait Gauge {
     // The first cost comes before the second in listing order.
     ghost earlier: { Self·Cost → Self·Cost → Bool };
 
-    // The five laws of a gauge.
-    law lawful: { (g : Self) → Lawful Self·Cost Self·Weight (rules origin (reach g) noWorse earlier) };
+    // The first three laws: how costs compare.
+    law compares: { Compares Self·Cost noWorse earlier };
+
+    // The fourth and the fifth law: how costs go along runs, at any limits.
+    law carries: { (g : Self) → Carries Self·Cost Self·Weight noWorse (reach g) };
 
     fn start() -> Self::Cost
         ensures { λ r. ⌜ r ≡ origin ⌝ };

@@ -1,6 +1,7 @@
 ghost use mathlib.Core.Path.{_≡_};
 ghost use mathlib.Core.Bool.{_&&_};
-ghost use Rattle.gauge.specs.Pairs.{both, lexical};
+ghost use Rattle.std.specs.Orderings.{Decides};
+ghost use Rattle.gauge.specs.Pairs.{Ahead, both, lexical};
 use crate::Gauge;
 
 // Two gauges as one.
@@ -58,7 +59,10 @@ pub impl<A: Gauge, B: Gauge> Gauge for Pair<A, B> as PairGauge {
         A::no_worse(a.first, b.first) && B::no_worse(a.second, b.second)
     }
 
-    fn before(a: PairCost<A::Cost, B::Cost>, b: PairCost<A::Cost, B::Cost>) -> bool {
+    fn before(a: PairCost<A::Cost, B::Cost>, b: PairCost<A::Cost, B::Cost>) -> bool
+        ensures result { λ r. ⌜ r ≡ lexical (A·Gauge .earlier (a .first) (b .first)) (A·Gauge .earlier (b .first) (a .first)) (B·Gauge .earlier (a .second) (b .second)) ⌝ }
+        ensures order { λ r. ⌜ Decides r (Ahead (A·Gauge .earlier) (B·Gauge .earlier) a b) ⌝ }
+    {
         if A::before(a.first, b.first) {
             return true;
         }
