@@ -10,9 +10,8 @@ use Rattle.listing.specs.declared.cause.Cause.{Cause}
 use Rattle.listing.specs.declared.cause.Cause.the-variants as cause
 use Rattle.plan.specs.declared.runs.Run.{Run}
 use Rattle.plan.specs.Make.{planAnswer}
-use Rattle.planfile.specs.declared.kinds.WeightFault.{WeightFault}
-use Rattle.planfile.specs.Bytes.{u16le}
-use Rattle.planfile.specs.File.{fileRuns}
+use Rattle.planfile.specs.File.{fileRuns, pointsIn}
+use Rattle.planfile.specs.Weights.{Weighing}
 use Rattle.listing.specs.Report.{Answers, Told, listAnswer, planListed, printed, runsListed}
 
 pub told-printed : {Z : Type 0} (r : Result (String Z) Cause) (answer : Result (List ℕ) Fault) (text : List ℕ) → Answers r answer → Told r text → text ≡ printed answer
@@ -22,9 +21,9 @@ told-printed (Err (cause.Plan e)) answer text a t = t ∙ sym (ap printed a)
 told-printed (Err cause.Memory) answer text a t = absurd t
 
 -- the plan over the runs that stand in a table is that of the file
-pub table-listed : {W : Type 0} (kind : ℕ) (weighed : ℕ → ℕ → ℕ → Result W WeightFault) (numbers : W → List ℕ) (word bs : List ℕ) (room points : ℕ) (part runs : List (Run W)) →
-    fileRuns kind weighed bs room ≡ Ok runs → part ≡ runs → points ≡ u16le bs 0 → planListed numbers word (planAnswer points part) ≡ listAnswer kind weighed numbers word bs room
+pub table-listed : {W : Type 0} (kind : ℕ) (weighed : Weighing W) (numbers : W → List ℕ) (word bs : List ℕ) (room points : ℕ) (part runs : List (Run W)) →
+    fileRuns kind weighed bs room ≡ Ok runs → part ≡ runs → points ≡ pointsIn bs → planListed numbers word (planAnswer points part) ≡ listAnswer kind weighed numbers word bs room
 table-listed kind weighed numbers word bs room points part runs read same p =
     ap (λ xs. planListed numbers word (planAnswer points xs)) same
     ∙ ap (λ n. planListed numbers word (planAnswer n runs)) p
-    ∙ sym (ap (runsListed numbers word (u16le bs 0)) read)
+    ∙ sym (ap (runsListed numbers word (pointsIn bs)) read)

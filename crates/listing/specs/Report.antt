@@ -14,10 +14,8 @@ use Rattle.fault.specs.declared.row.Fault.{Fault}
 use Rattle.fault.specs.Rows.{fileRow, planRow}
 use Rattle.plan.specs.declared.runs.Run.{Run}
 use Rattle.plan.specs.Make.{planAnswer, Drawn}
-use Rattle.planfile.specs.declared.kinds.WeightFault.{WeightFault}
-use Rattle.planfile.specs.Bytes.{u16le}
-use Rattle.planfile.specs.File.{fileRuns, isDrive}
-use Rattle.planfile.specs.Weights.{cableWeight, driveWeight, three}
+use Rattle.planfile.specs.File.{fileRuns, isDrive, pointsIn}
+use Rattle.planfile.specs.Weights.{Weighing, cableWeight, driveWeight, three}
 use Rattle.listing.specs.declared.cause.Cause.{Cause}
 use Rattle.listing.specs.declared.cause.Cause.the-variants as cause
 use Rattle.listing.specs.Lines.{refusedText, planText}
@@ -33,8 +31,8 @@ runsListed numbers word points (Ok runs) = planListed numbers word (planAnswer p
 runsListed numbers word points (Err e) = Err (fileRow e)
 
 -- a file of one kind, read into a table of so many places
-abbrev pub listAnswer : {W : Type 0} → ℕ → (ℕ → ℕ → ℕ → Result W WeightFault) → (W → List ℕ) → List ℕ → List ℕ → ℕ → Result (List ℕ) Fault
-listAnswer kind weighed numbers word bs room = runsListed numbers word (u16le bs 0) (fileRuns kind weighed bs room)
+abbrev pub listAnswer : {W : Type 0} → ℕ → Weighing W → (W → List ℕ) → List ℕ → List ℕ → ℕ → Result (List ℕ) Fault
+listAnswer kind weighed numbers word bs room = runsListed numbers word (pointsIn bs) (fileRuns kind weighed bs room)
 
 -- a cable file: kind 1
 unfoldable pub cableAnswer : List ℕ → Result (List ℕ) Fault

@@ -21,9 +21,9 @@ use Rattle.planfile.specs.declared.kinds.WeightFault.{WeightFault}
 use Rattle.planfile.specs.declared.kinds.WeightFault.the-variants.{Unmeasured, Class}
 use Rattle.planfile.specs.declared.reader.Header.{Header}
 use Rattle.planfile.specs.Bytes.{u16le}
-use Rattle.planfile.specs.Weights.{andThen}
-use Rattle.planfile.specs.File.{headerAnswer, runWith, runAt, runsFrom, done, filled, fileRuns, fileAnswer, fileTable}
-use Rattle.planfile.specs.Meaning.{weightAt, Readable, Stands, Placed}
+use Rattle.planfile.specs.Weights.{Weighing, andThen}
+use Rattle.planfile.specs.File.{pointsIn, runsIn, kindIn, weightAt, headerAnswer, runWith, runAt, runsFrom, done, filled, fileRuns, fileAnswer, fileTable}
+use Rattle.planfile.specs.Meaning.{Readable, Stands, Placed}
 use Rattle.planfile.proofs.Told.{runs-length, accepted-parts, refused-runs}
 
 -- places of two lists, one after the other
@@ -39,7 +39,7 @@ nth-back (x ∷ xs) [] (suc k) h = nth-past (xs ++ []) k (rw append-nil (omega a
 nth-back (x ∷ xs) (y ∷ ys) zero h = grind arith
 nth-back (x ∷ xs) (y ∷ ys) (suc k) h = nth-back xs ys k (omega arith)
 
-module _ {W : Type 0} (weighed : ℕ → ℕ → ℕ → Result W WeightFault) (bs : List ℕ) (r : ℕ) where
+module _ {W : Type 0} (weighed : Weighing W) (bs : List ℕ) (r : ℕ) where
   -- a run that is read stands in the file
   run-stands : (k : ℕ) (x : Run W) → runAt weighed bs r k ≡ Ok x → Stands weighed bs r k x
   run-stands k x e = by (weightAt weighed bs r k) refl e
@@ -98,11 +98,11 @@ module _ {W : Type 0} (weighed : ℕ → ℕ → ℕ → Result W WeightFault) (
 
 -- an accepted header
 header-good : (kind : ℕ) (bs : List ℕ) (room : ℕ) (h : Header) → headerAnswer kind bs room ≡ Ok h →
-    (6 ≤ length bs) × (1 ≤ u16le bs 0) × (u16le bs 0 ≤ 256) × (u16le bs 2 ≤ 1024) × (u16le bs 4 ≡ kind) × (length bs ≡ 6 + 16 * u16le bs 2) × (u16le bs 2 ≤ room) × (h .runs ≡ u16le bs 2)
+    (6 ≤ length bs) × (1 ≤ pointsIn bs) × (pointsIn bs ≤ 256) × (runsIn bs ≤ 1024) × (kindIn bs ≡ kind) × (length bs ≡ 6 + 16 * runsIn bs) × (runsIn bs ≤ room) × (h .runs ≡ runsIn bs)
 header-good kind bs room h e =
     (grind (arith, tells), grind (arith, tells), grind (arith, tells), grind (arith, tells), grind (arith, tells), grind (arith, tells), grind (arith, tells), grind (arith, tells))
 
-module _ {W : Type 0} (weighed : ℕ → ℕ → ℕ → Result W WeightFault) (bs : List ℕ) (kind room : ℕ) where
+module _ {W : Type 0} (weighed : Weighing W) (bs : List ℕ) (kind room : ℕ) where
   -- the files that are accepted are those that can be read
   accepted-readable : (h : Header) → fileAnswer kind weighed bs room ≡ Ok h → Readable kind weighed bs room
   accepted-readable h e =
@@ -125,13 +125,13 @@ module _ {W : Type 0} (weighed : ℕ → ℕ → ℕ → Result W WeightFault) (
   readable-accepted : Readable kind weighed bs room → isOk (fileAnswer kind weighed bs room) ≡ true
   unfolding fileAnswer
   readable-accepted s =
-      let h : Header = record { points = u16le bs 0; runs = u16le bs 2 } in
+      let h : Header = record { points = pointsIn bs; runs = runsIn bs } in
       let head : headerAnswer kind bs room ≡ Ok h = grind (arith, tells) in
-      let good = runs-read weighed bs (u16le bs 2) (u16le bs 2) 0
+      let good = runs-read weighed bs (runsIn bs) (runsIn bs) 0
       (λ j l. let here : 0 + j ≡ j = omega arith in
-      ap (λ m. isOk (runAt weighed bs (u16le bs 2) m)) here ∙ run-weight weighed bs (u16le bs 2) j ∙ s .weights j l) in
+      ap (λ m. isOk (runAt weighed bs (runsIn bs) m)) here ∙ run-weight weighed bs (runsIn bs) j ∙ s .weights j l) in
       ap (λ a. isOk (andThen a (λ h. andThen (done (runsFrom weighed bs (h .runs) (h .runs) 0)) (λ _. Ok h)))) head
-      ∙ by h (runsFrom weighed bs (u16le bs 2) (u16le bs 2) 0) good
+      ∙ by h (runsFrom weighed bs (runsIn bs) (runsIn bs) 0) good
     where
       by : (h : Header) (b : Result (List (Run W)) FileFault) → isOk b ≡ true → isOk (andThen (done b) (λ _. Ok h)) ≡ true
       by h (Ok xs) p = refl
@@ -142,7 +142,7 @@ module _ {W : Type 0} (weighed : ℕ → ℕ → ℕ → Result W WeightFault) (
   answer-readable (Err f) e = ((λ t. grind arith), (λ s. ap isOk e ∙ readable-accepted s))
 
 -- the run table after reading
-answer-placed : {W : Type 0} (weighed : ℕ → ℕ → ℕ → Result W WeightFault) (bs : List ℕ) (kind : ℕ) (before after : List (Run W)) (r : Result Header FileFault) →
+answer-placed : {W : Type 0} (weighed : Weighing W) (bs : List ℕ) (kind : ℕ) (before after : List (Run W)) (r : Result Header FileFault) →
     r ≡ fileAnswer kind weighed bs (length before) → after ≡ fileTable kind weighed bs before → Placed weighed bs r before after
 unfolding fileTable fileRuns
 answer-placed {W} weighed bs kind before after (Ok h) e table = (
@@ -163,7 +163,7 @@ answer-placed {W} weighed bs kind before after (Ok h) e table = (
 answer-placed weighed bs kind before after (Err f) e table = table ∙ ap (λ x. filled x before) (refused-runs weighed bs kind (length before) f (sym e))
 
 -- both at once, as the reader states them
-pub answer-means : {W : Type 0} (weighed : ℕ → ℕ → ℕ → Result W WeightFault) (bs : List ℕ) (kind : ℕ) (before after : List (Run W)) (r : Result Header FileFault) →
+pub answer-means : {W : Type 0} (weighed : Weighing W) (bs : List ℕ) (kind : ℕ) (before after : List (Run W)) (r : Result Header FileFault) →
     r ≡ fileAnswer kind weighed bs (length before) → after ≡ fileTable kind weighed bs before →
     Decides (isOk r) (Readable kind weighed bs (length before)) × Placed weighed bs r before after
 answer-means weighed bs kind before after r e table = (answer-readable weighed bs kind (length before) r e, answer-placed weighed bs kind before after r e table)

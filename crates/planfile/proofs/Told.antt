@@ -12,15 +12,14 @@ use Rattle.fault.specs.declared.file.FileFault.{FileFault}
 use Rattle.plan.specs.declared.runs.Run.{Run}
 use Rattle.planfile.specs.declared.kinds.WeightFault.{WeightFault}
 use Rattle.planfile.specs.declared.reader.Header.{Header}
-use Rattle.planfile.specs.Bytes.{u16le}
-use Rattle.planfile.specs.Weights.{andThen}
-use Rattle.planfile.specs.File.{headerAnswer, runAt, runsFrom, done, filled, fileRuns, fileAnswer, fileTable}
+use Rattle.planfile.specs.Weights.{Weighing, andThen}
+use Rattle.planfile.specs.File.{pointsIn, headerAnswer, runAt, runsFrom, done, filled, fileRuns, fileAnswer, fileTable}
 
 -- an accepted header tells the counts, and the runs have room
-header-told : (kind : ℕ) (bs : List ℕ) (room : ℕ) (h : Header) → headerAnswer kind bs room ≡ Ok h → (h .points ≡ u16le bs 0) × (h .runs ≤ room)
+header-told : (kind : ℕ) (bs : List ℕ) (room : ℕ) (h : Header) → headerAnswer kind bs room ≡ Ok h → (h .points ≡ pointsIn bs) × (h .runs ≤ room)
 header-told kind bs room h e = (grind (arith, tells), grind (arith, tells))
 
-module _ {W : Type 0} (weighed : ℕ → ℕ → ℕ → Result W WeightFault) (bs : List ℕ) where
+module _ {W : Type 0} (weighed : Weighing W) (bs : List ℕ) where
   -- as many runs are read as were asked for
   pub runs-length : (r n k : ℕ) (runs : List (Run W)) → runsFrom weighed bs r n k ≡ Ok runs → length runs ≡ n
   runs-length r zero k runs e = grind arith
@@ -68,7 +67,7 @@ module _ {W : Type 0} (weighed : ℕ → ℕ → ℕ → Result W WeightFault) (
 
     -- the runs of an accepted file are as many as it says, and have room
     pub accepted-runs : (h : Header) → fileAnswer kind weighed bs room ≡ Ok h →
-        (runs : List (Run W)) × (fileRuns kind weighed bs room ≡ Ok runs) × (length runs ≡ h .runs) × (h .points ≡ u16le bs 0) × (h .runs ≤ room)
+        (runs : List (Run W)) × (fileRuns kind weighed bs room ≡ Ok runs) × (length runs ≡ h .runs) × (h .points ≡ pointsIn bs) × (h .runs ≤ room)
     unfolding fileRuns
     accepted-runs h e =
         let a = accepted-parts h e in

@@ -13,7 +13,7 @@ use Rattle.std.specs.declared.result.Result.the-variants.{Ok, Err}
 use Rattle.fault.specs.declared.file.FileFault.{FileFault}
 use Rattle.plan.specs.declared.runs.Run.{Run}
 use Rattle.planfile.specs.declared.kinds.WeightFault.{WeightFault}
-use Rattle.planfile.specs.Weights.{andThen}
+use Rattle.planfile.specs.Weights.{Weighing, andThen}
 use Rattle.planfile.specs.File.{runAt, runsFrom, done, filled}
 
 -- a run written at its place, with the runs after it still to come
@@ -25,7 +25,7 @@ write-one x xs t k h =
     rw (take-more-set t k x h, drop-set-lt (k + 1) t k x past, drop-drop (suc (length xs)) k t, drop-drop (length xs) (k + 1) t, same)
     (sym (append-assoc (take k t) (x ∷ []) (xs ++ drop (k + 1 + length xs) t)))
 
-module _ {W : Type 0} (weighed : ℕ → ℕ → ℕ → Result W WeightFault) (bs : List ℕ) (r k : ℕ) where
+module _ {W : Type 0} (weighed : Weighing W) (bs : List ℕ) (r k : ℕ) where
   -- the runs that are left, at the turn of run k
   abbrev left : Result (List (Run W)) FileFault
   left = runsFrom weighed bs r (r - k) k

@@ -13,27 +13,37 @@ use Rattle.planfile.specs.declared.kinds.WeightFault.{WeightFault}
 use Rattle.planfile.specs.declared.kinds.WeightFault.the-variants.{Unmeasured, Class}
 use Rattle.planfile.specs.declared.reader.Header.{Header}
 use Rattle.planfile.specs.Bytes.{u16le, u32le}
-use Rattle.planfile.specs.Weights.{andThen}
+use Rattle.planfile.specs.Weights.{Weighing, andThen}
 
 -- the bytes of a file with r runs: three numbers of two bytes, then per run two ends of two bytes, then per run three weights of four
 abbrev pub size : ℕ → ℕ
 size r = 6 + 16 * r
 
+-- the number of points, the number of runs and the kind that a file states
+abbrev pub pointsIn : List ℕ → ℕ
+pointsIn bs = u16le bs 0
+
+abbrev pub runsIn : List ℕ → ℕ
+runsIn bs = u16le bs 2
+
+abbrev pub kindIn : List ℕ → ℕ
+kindIn bs = u16le bs 4
+
 -- the file says that it is a drive plan
 abbrev pub isDrive : List ℕ → Bool
-isDrive bs = cond (ltb (length bs) 6) false (eqb (u16le bs 4) 2)
+isDrive bs = cond (ltb (length bs) 6) false (eqb (kindIn bs) 2)
 
 -- the refusals of the first six bytes, of the lengths and of the room, in their order
 abbrev pub headerAnswer : ℕ → List ℕ → ℕ → Result Header FileFault
 headerAnswer kind bs room =
     cond (ltb (length bs) 6) (Err (file.Short (length bs)))
-    (cond (ltb (u16le bs 0) 1 || ltb 256 (u16le bs 0)) (Err (file.Points (u16le bs 0)))
-    (cond (ltb 1024 (u16le bs 2)) (Err (file.Runs (u16le bs 2)))
-    (cond (not (eqb (u16le bs 4) kind)) (Err (file.Kind (u16le bs 4)))
-    (cond (ltb (length bs) (size (u16le bs 2))) (Err (file.Short (length bs)))
-    (cond (ltb (size (u16le bs 2)) (length bs)) (Err (file.Long (size (u16le bs 2))))
-    (cond (ltb room (u16le bs 2)) (Err (file.Table (u16le bs 2)))
-    (Ok (record { points = u16le bs 0; runs = u16le bs 2 }))))))))
+    (cond (ltb (pointsIn bs) 1 || ltb 256 (pointsIn bs)) (Err (file.Points (pointsIn bs)))
+    (cond (ltb 1024 (runsIn bs)) (Err (file.Runs (runsIn bs)))
+    (cond (not (eqb (kindIn bs) kind)) (Err (file.Kind (kindIn bs)))
+    (cond (ltb (length bs) (size (runsIn bs))) (Err (file.Short (length bs)))
+    (cond (ltb (size (runsIn bs)) (length bs)) (Err (file.Long (size (runsIn bs))))
+    (cond (ltb room (runsIn bs)) (Err (file.Table (runsIn bs)))
+    (Ok (record { points = pointsIn bs; runs = runsIn bs }))))))))
 
 -- run k with its weight, or the fault of its weight
 abbrev pub runWith : {W : Type 0} → ℕ → ℕ → ℕ → Result W WeightFault → Result (Run W) FileFault
@@ -41,14 +51,18 @@ runWith k tail head (Ok w) = Ok (record { tail = tail; head = head; weight = w }
 runWith k tail head (Err Unmeasured) = Err (file.Unmeasured k)
 runWith k tail head (Err Class) = Err (file.Class k)
 
--- run k of r: the ends of all runs stand first, and then the weights of all runs
-abbrev pub runAt : {W : Type 0} → (ℕ → ℕ → ℕ → Result W WeightFault) → List ℕ → ℕ → ℕ → Result (Run W) FileFault
+-- what the three numbers of run k of r stand for: the weights of all runs stand after the ends of all runs
+abbrev pub weightAt : {W : Type 0} → Weighing W → List ℕ → ℕ → ℕ → Result W WeightFault
+weightAt weighed bs r k =
+    weighed (u32le bs (6 + 4 * r + 12 * k)) (u32le bs (6 + 4 * r + 12 * k + 4)) (u32le bs (6 + 4 * r + 12 * k + 8))
+
+-- run k of r: the ends of all runs stand first
+abbrev pub runAt : {W : Type 0} → Weighing W → List ℕ → ℕ → ℕ → Result (Run W) FileFault
 runAt weighed bs r k =
-    runWith k (u16le bs (6 + 4 * k)) (u16le bs (6 + 4 * k + 2))
-    (weighed (u32le bs (6 + 4 * r + 12 * k)) (u32le bs (6 + 4 * r + 12 * k + 4)) (u32le bs (6 + 4 * r + 12 * k + 8)))
+    runWith k (u16le bs (6 + 4 * k)) (u16le bs (6 + 4 * k + 2)) (weightAt weighed bs r k)
 
 -- n runs from number k on, or the fault of the first that is refused
-abbrev pub runsFrom : {W : Type 0} → (ℕ → ℕ → ℕ → Result W WeightFault) → List ℕ → ℕ → ℕ → ℕ → Result (List (Run W)) FileFault
+abbrev pub runsFrom : {W : Type 0} → Weighing W → List ℕ → ℕ → ℕ → ℕ → Result (List (Run W)) FileFault
 runsFrom weighed bs r zero k = Ok []
 runsFrom weighed bs r (suc n) k = andThen (runAt weighed bs r k) (λ x. andThen (runsFrom weighed bs r n (k + 1)) (λ xs. Ok (x ∷ xs)))
 
@@ -63,14 +77,14 @@ filled (Ok runs) table = runs ++ drop (length runs) table
 filled (Err e) table = table
 
 -- the runs of a file that is read into a table of so many places
-unfoldable pub fileRuns : {W : Type 0} → ℕ → (ℕ → ℕ → ℕ → Result W WeightFault) → List ℕ → ℕ → Result (List (Run W)) FileFault
+unfoldable pub fileRuns : {W : Type 0} → ℕ → Weighing W → List ℕ → ℕ → Result (List (Run W)) FileFault
 fileRuns kind weighed bs room = andThen (headerAnswer kind bs room) (λ h. runsFrom weighed bs (h .runs) (h .runs) 0)
 
 -- what reading answers
-unfoldable pub fileAnswer : {W : Type 0} → ℕ → (ℕ → ℕ → ℕ → Result W WeightFault) → List ℕ → ℕ → Result Header FileFault
+unfoldable pub fileAnswer : {W : Type 0} → ℕ → Weighing W → List ℕ → ℕ → Result Header FileFault
 fileAnswer kind weighed bs room =
     andThen (headerAnswer kind bs room) (λ h. andThen (done (runsFrom weighed bs (h .runs) (h .runs) 0)) (λ _. Ok h))
 
 -- what the table then holds
-unfoldable pub fileTable : {W : Type 0} → ℕ → (ℕ → ℕ → ℕ → Result W WeightFault) → List ℕ → List (Run W) → List (Run W)
+unfoldable pub fileTable : {W : Type 0} → ℕ → Weighing W → List ℕ → List (Run W) → List (Run W)
 fileTable kind weighed bs table = filled (fileRuns kind weighed bs (length table)) table

@@ -9,6 +9,10 @@ use Rattle.gauge.specs.declared.pair.PairWeight.{PairWeight}
 use Rattle.planfile.specs.declared.kinds.WeightFault.{WeightFault}
 use Rattle.planfile.specs.declared.kinds.WeightFault.the-variants.{Unmeasured, Class}
 
+-- the weight that three numbers stand for, or why they stand for none
+abbrev pub Weighing : Type 0 → Type 0
+Weighing W = ℕ → ℕ → ℕ → Result W WeightFault
+
 -- goes on with a good number, or ends with its fault
 abbrev pub andThen : {A B E : Type 0} → Result A E → (A → Result B E) → Result B E
 andThen (Ok x) f = f x
@@ -27,11 +31,11 @@ abbrev pub weightOf : {A B C : Type 0} → A → B → C → PairWeight A (PairW
 weightOf a b c = record { first = a; second = record { first = b; second = c } }
 
 -- decimetres, drillings, zones: any 32 bits are a set of zones
-abbrev pub cableWeight : ℕ → ℕ → ℕ → Result (PairWeight ℕ (PairWeight ℕ ℕ)) WeightFault
+abbrev pub cableWeight : Weighing (PairWeight ℕ (PairWeight ℕ ℕ))
 cableWeight a b c = andThen (measuredNumber a) (λ length. andThen (measuredNumber b) (λ drillings. Ok (weightOf length drillings c)))
 
 -- decimetres, ramp class, crossings
-abbrev pub driveWeight : ℕ → ℕ → ℕ → Result (PairWeight ℕ (PairWeight ℕ ℕ)) WeightFault
+abbrev pub driveWeight : Weighing (PairWeight ℕ (PairWeight ℕ ℕ))
 driveWeight a b c =
     andThen (measuredNumber a) (λ length. andThen (classNumber b) (λ ramp. andThen (measuredNumber c) (λ crossings. Ok (weightOf length ramp crossings))))
 

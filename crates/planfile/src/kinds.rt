@@ -2,9 +2,7 @@
 ghost use mathlib.Core.Path.{_≡_};
 ghost use mathlib.Core.List.{List};
 ghost use Prim.Native.Nat.{ℕ};
-ghost use Rattle.std.specs.declared.result.Result.{Result};
-ghost use Rattle.planfile.specs.declared.kinds.WeightFault.{WeightFault};
-ghost use Rattle.planfile.specs.Weights.{measuredNumber, classNumber, cableWeight, driveWeight, three};
+ghost use Rattle.planfile.specs.Weights.{Weighing, measuredNumber, classNumber, cableWeight, driveWeight, three};
 use gauge::Gauge;
 use gauge::house::Cable;
 use gauge::house::CableWeight;
@@ -37,7 +35,7 @@ pub trait Kind: Gauge {
     ghost number: { ℕ };
 
     // The weight that three numbers stand for, or why they stand for none.
-    ghost weighed: { ℕ → ℕ → ℕ → Result Self·Weight WeightFault };
+    ghost weighed: { Weighing Self·Weight };
 
     // The three numbers of a weight.
     ghost numbers: { Self·Weight → List ℕ };

@@ -2,9 +2,8 @@ use mathlib.Core.Path.{_≡_, sym, ap, _∙_, subst}
 use native.Mathlib.Omega.{arith}
 use lib.ListN.{length, take}
 use Rattle.std.proofs.shelf.Results.{err-from-errBy}
-use Rattle.planfile.specs.Bytes.{u16le}
 use Rattle.planfile.proofs.Told.{refused-runs, accepted-runs, table-runs}
-use Rattle.planfile.specs.File.{fileTable}
+use Rattle.planfile.specs.File.{fileTable, pointsIn}
 use Rattle.listing.specs.Report.{Answers, runsListed}
 use Rattle.listing.proofs.Tellings.{table-listed}
 use Rattle.listing.proofs.report.list_in.Needs as need
@@ -13,7 +12,7 @@ pub returns-in-Break-header : need.returns-in-Break-header
 returns-in-Break-header g c =
     let p = err-from-errBy (c .from-residual .result) (c .from-residual .ensures .1) in
     let runs = refused-runs (g .K·Kind .weighed) (c .args .bytes .now) (g .K·Kind .number) (length (c .args .table .now)) (c .in-Break-header .field-0 .0) (sym (c .in-Break-header .ensures tt .answer)) in
-    rw (p .1, p .2) (ap (runsListed (g .K·Kind .numbers) (c .args .word .now) (u16le (c .args .bytes .now) 0)) runs)
+    rw (p .1, p .2) (ap (runsListed (g .K·Kind .numbers) (c .args .word .now) (pointsIn (c .args .bytes .now))) runs)
 
 pub list-runs-requires : need.list-runs-requires
 list-runs-requires g c κs =
