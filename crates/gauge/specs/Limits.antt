@@ -46,13 +46,13 @@ part n (Some a) make = make a
 
 -- decimetres, drillings, zones
 abbrev pub cableAt : ℕ → ℕ → ℕ → Result (Pair Sum (Pair Sum Set)) LimitFault
-cableAt length drillings zones =
-    part 0 (sumAt length) (λ a. part 1 (sumAt drillings) (λ b. Ok (three a b (setAt zones))))
+cableAt decimetres drillings zones =
+    part 0 (sumAt decimetres) (λ a. part 1 (sumAt drillings) (λ b. Ok (three a b (setAt zones))))
 
 -- decimetres, ramp class, crossings
 abbrev pub driveAt : ℕ → ℕ → ℕ → Result (Pair Sum (Pair Worst Sum)) LimitFault
-driveAt length ramp crossings =
-    part 0 (sumAt length) (λ a. part 1 (worstAt ramp) (λ b. part 2 (sumAt crossings) (λ c. Ok (three a b c))))
+driveAt decimetres ramp crossings =
+    part 0 (sumAt decimetres) (λ a. part 1 (worstAt ramp) (λ b. part 2 (sumAt crossings) (λ c. Ok (three a b c))))
 
 -- both gauges at the widest limits
 abbrev pub widestCable : Pair Sum (Pair Sum Set)

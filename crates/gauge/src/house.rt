@@ -12,22 +12,24 @@ use fault::LimitFault;
 // Decimetres, drillings, zones.
 pub type Cable = Pair<Sum, Pair<Sum, Set>>;
 
+// The weight of a run in each part of the cable gauge.
 pub type CableWeight = PairWeight<u32, PairWeight<u32, u32>>;
 
 // Decimetres, ramp class, crossings.
 pub type Drive = Pair<Sum, Pair<Worst, Sum>>;
 
+// The weight of a run in each part of the drive gauge.
 pub type DriveWeight = PairWeight<u32, PairWeight<u8, u32>>;
 
 // The cable gauge at three limits; the first that is out of its range is refused.
 pub fn cable_at(limits: [u32; 3]) -> Result<Cable, LimitFault>
     ensures { λ r. ⌜ r ≡ cableAt (getD limits 0 0) (getD limits 1 0) (getD limits 2 0) ⌝ }
 {
-    let length = Sum::new(limits[0]).ok_or(LimitFault::Limit(0))?;
+    let decimetres = Sum::new(limits[0]).ok_or(LimitFault::Limit(0))?;
     let drillings = Sum::new(limits[1]).ok_or(LimitFault::Limit(1))?;
     let zones = Set::new(limits[2]);
     Ok(Pair {
-        first: length,
+        first: decimetres,
         second: Pair {
             first: drillings,
             second: zones,
@@ -39,11 +41,11 @@ pub fn cable_at(limits: [u32; 3]) -> Result<Cable, LimitFault>
 pub fn drive_at(limits: [u32; 3]) -> Result<Drive, LimitFault>
     ensures { λ r. ⌜ r ≡ driveAt (getD limits 0 0) (getD limits 1 0) (getD limits 2 0) ⌝ }
 {
-    let length = Sum::new(limits[0]).ok_or(LimitFault::Limit(0))?;
+    let decimetres = Sum::new(limits[0]).ok_or(LimitFault::Limit(0))?;
     let ramp = Worst::new(limits[1]).ok_or(LimitFault::Limit(1))?;
     let crossings = Sum::new(limits[2]).ok_or(LimitFault::Limit(2))?;
     Ok(Pair {
-        first: length,
+        first: decimetres,
         second: Pair {
             first: ramp,
             second: crossings,

@@ -32,12 +32,12 @@ weightOf a b c = record { first = a; second = record { first = b; second = c } }
 
 -- decimetres, drillings, zones: any 32 bits are a set of zones
 abbrev pub cableWeight : Weighing (PairWeight ℕ (PairWeight ℕ ℕ))
-cableWeight a b c = andThen (measuredNumber a) (λ length. andThen (measuredNumber b) (λ drillings. Ok (weightOf length drillings c)))
+cableWeight a b c = andThen (measuredNumber a) (λ decimetres. andThen (measuredNumber b) (λ drillings. Ok (weightOf decimetres drillings c)))
 
 -- decimetres, ramp class, crossings
 abbrev pub driveWeight : Weighing (PairWeight ℕ (PairWeight ℕ ℕ))
 driveWeight a b c =
-    andThen (measuredNumber a) (λ length. andThen (classNumber b) (λ ramp. andThen (measuredNumber c) (λ crossings. Ok (weightOf length ramp crossings))))
+    andThen (measuredNumber a) (λ decimetres. andThen (classNumber b) (λ ramp. andThen (measuredNumber c) (λ crossings. Ok (weightOf decimetres ramp crossings))))
 
 -- the three numbers of a weight
 abbrev pub three : PairWeight ℕ (PairWeight ℕ ℕ) → List ℕ

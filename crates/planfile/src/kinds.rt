@@ -85,10 +85,10 @@ pub impl Kind for Cable as CableKind {
     }
 
     fn weigh(a: u32, b: u32, c: u32) -> Result<CableWeight, WeightFault> {
-        let length = measured(a)?;
+        let decimetres = measured(a)?;
         let drillings = measured(b)?;
         Ok(PairWeight {
-            first: length,
+            first: decimetres,
             second: PairWeight {
                 first: drillings,
                 second: c,
@@ -113,11 +113,11 @@ pub impl Kind for Drive as DriveKind {
     }
 
     fn weigh(a: u32, b: u32, c: u32) -> Result<DriveWeight, WeightFault> {
-        let length = measured(a)?;
+        let decimetres = measured(a)?;
         let ramp = class(b)?;
         let crossings = measured(c)?;
         Ok(PairWeight {
-            first: length,
+            first: decimetres,
             second: PairWeight {
                 first: ramp,
                 second: crossings,
