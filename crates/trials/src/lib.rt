@@ -1,0 +1,13 @@
+// Trials: the crates below, tried case by case.
+#[cfg(test)]
+mod cases;
+#[cfg(test)]
+mod files;
+#[cfg(test)]
+mod gauges;
+#[cfg(test)]
+mod limits;
+#[cfg(test)]
+mod listings;
+#[cfg(test)]
+mod plans;
