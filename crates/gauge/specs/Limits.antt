@@ -12,6 +12,7 @@ use Rattle.gauge.specs.declared.sum.Sum.{Sum}
 use Rattle.gauge.specs.declared.worst.Worst.{Worst}
 use Rattle.gauge.specs.declared.set.Set.{Set}
 use Rattle.gauge.specs.declared.pair.Pair.{Pair}
+use Rattle.gauge.specs.Pairs.{threeParts}
 
 -- a Sum at a limit of at most 4,294,967,294
 abbrev pub sumAt : ℕ → Option Sum
@@ -35,10 +36,6 @@ widestWorst = record { limit = 15 }
 abbrev pub widestSet : Set
 widestSet = record { allowed = 4294967295 }
 
--- a gauge of three parts
-abbrev pub three : {A B C : Type 0} → A → B → C → Pair A (Pair B C)
-three a b c = record { first = a; second = record { first = b; second = c } }
-
 -- goes on with the part that was made, or refuses its limit
 abbrev pub part : {A B : Type 0} → ℕ → Option A → (A → Result B LimitFault) → Result B LimitFault
 part n None make = Err (Limit n)
@@ -47,16 +44,16 @@ part n (Some a) make = make a
 -- decimetres, drillings, zones
 abbrev pub cableAt : ℕ → ℕ → ℕ → Result (Pair Sum (Pair Sum Set)) LimitFault
 cableAt decimetres drillings zones =
-    part 0 (sumAt decimetres) (λ a. part 1 (sumAt drillings) (λ b. Ok (three a b (setAt zones))))
+    part 0 (sumAt decimetres) (λ a. part 1 (sumAt drillings) (λ b. Ok (threeParts a b (setAt zones))))
 
 -- decimetres, ramp class, crossings
 abbrev pub driveAt : ℕ → ℕ → ℕ → Result (Pair Sum (Pair Worst Sum)) LimitFault
 driveAt decimetres ramp crossings =
-    part 0 (sumAt decimetres) (λ a. part 1 (worstAt ramp) (λ b. part 2 (sumAt crossings) (λ c. Ok (three a b c))))
+    part 0 (sumAt decimetres) (λ a. part 1 (worstAt ramp) (λ b. part 2 (sumAt crossings) (λ c. Ok (threeParts a b c))))
 
 -- both gauges at the widest limits
 abbrev pub widestCable : Pair Sum (Pair Sum Set)
-widestCable = three widestSum widestSum widestSet
+widestCable = threeParts widestSum widestSum widestSet
 
 abbrev pub widestDrive : Pair Sum (Pair Worst Sum)
-widestDrive = three widestSum widestWorst widestSum
+widestDrive = threeParts widestSum widestWorst widestSum

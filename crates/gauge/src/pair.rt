@@ -1,7 +1,7 @@
 ghost use mathlib.Core.Path.{_≡_};
 ghost use mathlib.Core.Bool.{_&&_};
 ghost use Rattle.std.specs.Orderings.{Decides};
-ghost use Rattle.gauge.specs.Pairs.{Ahead, both, lexical};
+ghost use Rattle.gauge.specs.Pairs.{Ahead, both, lexical, threeParts};
 use crate::Gauge;
 
 // Two gauges as one.
@@ -23,6 +23,19 @@ pub struct PairCost<A, B> {
 pub struct PairWeight<A, B> {
     pub first: A,
     pub second: B,
+}
+
+// Three parts as a pair of the first and the pair of the others.
+pub(crate) fn three<A, B, C>(a: A, b: B, c: C) -> Pair<A, Pair<B, C>>
+    ensures { λ r. ⌜ r ≡ threeParts a b c ⌝ }
+{
+    Pair {
+        first: a,
+        second: Pair {
+            first: b,
+            second: c,
+        },
+    }
 }
 
 pub impl<A: Gauge, B: Gauge> Gauge for Pair<A, B> as PairGauge {

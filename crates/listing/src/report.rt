@@ -14,8 +14,9 @@ use crate::lines::put_plan;
 use crate::lines::refused;
 use gauge::house::Cable;
 use gauge::house::Drive;
+use gauge::house::cable_weight;
+use gauge::house::drive_weight;
 use gauge::pair::PairGauge;
-use gauge::pair::PairWeight;
 use gauge::set::SetGauge;
 use gauge::sum::SumGauge;
 use gauge::worst::WorstGauge;
@@ -54,17 +55,10 @@ fn told(heap: Global, listed: Result<String, Cause>) -> Result<String, AllocErro
 fn list_cable(heap: Global, bytes: &[u8]) -> Result<String, Cause>
     ensures { λ r. ⌜ Answers r (cableAnswer (now (bytes .entry))) ⌝ }
 {
-    let weight = PairWeight {
-        first: 0,
-        second: PairWeight {
-            first: 0,
-            second: 0,
-        },
-    };
     let mut table = [Run {
         tail: 0,
         head: 0,
-        weight,
+        weight: cable_weight(0, 0, 0),
     }; MOST_RUNS];
     list_in::<Cable>(heap, bytes, "cable", &mut table)
 }
@@ -72,17 +66,10 @@ fn list_cable(heap: Global, bytes: &[u8]) -> Result<String, Cause>
 fn list_drive(heap: Global, bytes: &[u8]) -> Result<String, Cause>
     ensures { λ r. ⌜ Answers r (driveAnswer (now (bytes .entry))) ⌝ }
 {
-    let weight = PairWeight {
-        first: 0,
-        second: PairWeight {
-            first: 0,
-            second: 0,
-        },
-    };
     let mut table = [Run {
         tail: 0,
         head: 0,
-        weight,
+        weight: drive_weight(0, 0, 0),
     }; MOST_RUNS];
     list_in::<Drive>(heap, bytes, "drive", &mut table)
 }

@@ -6,6 +6,7 @@ use lib.Dec.{eqb, ltb}
 use Rattle.std.specs.declared.result.Result.{Result}
 use Rattle.std.specs.declared.result.Result.the-variants.{Ok, Err}
 use Rattle.gauge.specs.declared.pair.PairWeight.{PairWeight}
+use Rattle.gauge.specs.Pairs.{threeWeights}
 use Rattle.planfile.specs.declared.kinds.WeightFault.{WeightFault}
 use Rattle.planfile.specs.declared.kinds.WeightFault.the-variants.{Unmeasured, Class}
 
@@ -26,18 +27,14 @@ measuredNumber n = cond (eqb n 4294967295) (Err Unmeasured) (Ok n)
 abbrev pub classNumber : ℕ → Result ℕ WeightFault
 classNumber n = andThen (measuredNumber n) (λ m. cond (ltb 15 m) (Err Class) (Ok m))
 
--- a weight of three parts
-abbrev pub weightOf : {A B C : Type 0} → A → B → C → PairWeight A (PairWeight B C)
-weightOf a b c = record { first = a; second = record { first = b; second = c } }
-
 -- decimetres, drillings, zones: any 32 bits are a set of zones
 abbrev pub cableWeight : Weighing (PairWeight ℕ (PairWeight ℕ ℕ))
-cableWeight a b c = andThen (measuredNumber a) (λ decimetres. andThen (measuredNumber b) (λ drillings. Ok (weightOf decimetres drillings c)))
+cableWeight a b c = andThen (measuredNumber a) (λ decimetres. andThen (measuredNumber b) (λ drillings. Ok (threeWeights decimetres drillings c)))
 
 -- decimetres, ramp class, crossings
 abbrev pub driveWeight : Weighing (PairWeight ℕ (PairWeight ℕ ℕ))
 driveWeight a b c =
-    andThen (measuredNumber a) (λ decimetres. andThen (classNumber b) (λ ramp. andThen (measuredNumber c) (λ crossings. Ok (weightOf decimetres ramp crossings))))
+    andThen (measuredNumber a) (λ decimetres. andThen (classNumber b) (λ ramp. andThen (measuredNumber c) (λ crossings. Ok (threeWeights decimetres ramp crossings))))
 
 -- the three numbers of a weight
 abbrev pub three : PairWeight ℕ (PairWeight ℕ ℕ) → List ℕ

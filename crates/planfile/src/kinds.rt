@@ -8,8 +8,9 @@ use gauge::house::Cable;
 use gauge::house::CableWeight;
 use gauge::house::Drive;
 use gauge::house::DriveWeight;
+use gauge::house::cable_weight;
+use gauge::house::drive_weight;
 use gauge::pair::PairGauge;
-use gauge::pair::PairWeight;
 use gauge::set::SetGauge;
 use gauge::sum::SumGauge;
 use gauge::worst::Worst;
@@ -87,13 +88,7 @@ pub impl Kind for Cable as CableKind {
     fn weigh(a: u32, b: u32, c: u32) -> Result<CableWeight, WeightFault> {
         let decimetres = measured(a)?;
         let drillings = measured(b)?;
-        Ok(PairWeight {
-            first: decimetres,
-            second: PairWeight {
-                first: drillings,
-                second: c,
-            },
-        })
+        Ok(cable_weight(decimetres, drillings, c))
     }
 
     fn numbers(weight: CableWeight) -> [u32; 3] {
@@ -116,13 +111,7 @@ pub impl Kind for Drive as DriveKind {
         let decimetres = measured(a)?;
         let ramp = class(b)?;
         let crossings = measured(c)?;
-        Ok(PairWeight {
-            first: decimetres,
-            second: PairWeight {
-                first: ramp,
-                second: crossings,
-            },
-        })
+        Ok(drive_weight(decimetres, ramp, crossings))
     }
 
     fn numbers(weight: DriveWeight) -> [u32; 3] {
