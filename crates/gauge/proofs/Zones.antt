@@ -10,7 +10,7 @@ use Rattle.std.proofs.shelf.Bits.{shr-shr}
 use Rattle.std.proofs.shelf.Ways.{tells, decides-eqb, decides-like}
 use Rattle.std.specs.Orderings.{Decides}
 use Rattle.gauge.specs.Laws.{Carries, Compares}
-use Rattle.gauge.specs.Costs.{Among, Unites, subset, inside}
+use Rattle.gauge.specs.Zones.{Among, Unites, subset, inside}
 use Rattle.gauge.proofs.Numbers.{carries-numbers, compares-numbers}
 
 -- the digit of each place: of a & b the lesser, of a | b the greater

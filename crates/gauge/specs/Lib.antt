@@ -1,4 +1,5 @@
 pub mod Laws
 pub mod Costs
+pub mod Zones
 pub mod Pairs
 pub mod Limits

@@ -2,7 +2,7 @@ ghost use mathlib.Core.Path.{_≡_};
 ghost use lib.Bits.{bitOr};
 ghost use lib.Dec.{ltb};
 ghost use Rattle.std.specs.Orderings.{Decides};
-ghost use Rattle.gauge.specs.Costs.{Among, Joined, inside, subset};
+ghost use Rattle.gauge.specs.Zones.{Among, Joined, inside, subset};
 ghost use Rattle.gauge.specs.Limits.{setAt, widestSet};
 use crate::Gauge;
 

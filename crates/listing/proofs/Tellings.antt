@@ -12,7 +12,8 @@ use Rattle.plan.specs.declared.runs.Run.{Run}
 use Rattle.plan.specs.Make.{planAnswer}
 use Rattle.planfile.specs.File.{fileRuns, pointsIn}
 use Rattle.planfile.specs.Weights.{Weighing}
-use Rattle.listing.specs.Report.{Answers, Told, listAnswer, planListed, printed, runsListed}
+use Rattle.listing.specs.Outcome.{Answers, Told}
+use Rattle.listing.specs.Report.{listAnswer, planListed, printed, runsListed}
 
 pub told-printed : {Z : Type 0} (r : Result (String Z) Cause) (answer : Result (List ℕ) Fault) (text : List ℕ) → Answers r answer → Told r text → text ≡ printed answer
 told-printed (Ok s) answer text a t = t ∙ sym (ap printed a)

@@ -1,11 +1,8 @@
 -- The listing of a plan file.
-use mathlib.Core.Path.{_≡_}
 use mathlib.Core.List.{List}
 use mathlib.Core.Bool.{cond}
 use Prim.Native.Nat.{ℕ}
 use lib.Chars.{codes}
-use Rattle.std.specs.Of.String.{string-bytes}
-use Rattle.std.specs.declared.string.String.{String}
 use Rattle.std.specs.declared.result.Result.{Result}
 use Rattle.std.specs.declared.result.Result.the-variants.{Ok, Err}
 use Rattle.fault.specs.declared.file.FileFault.{FileFault}
@@ -16,8 +13,6 @@ use Rattle.plan.specs.declared.runs.Run.{Run}
 use Rattle.plan.specs.Make.{planAnswer, Drawn}
 use Rattle.planfile.specs.File.{fileRuns, isDrive, pointsIn}
 use Rattle.planfile.specs.Weights.{Weighing, cableWeight, driveWeight, three}
-use Rattle.listing.specs.declared.cause.Cause.{Cause}
-use Rattle.listing.specs.declared.cause.Cause.the-variants as cause
 use Rattle.listing.specs.Lines.{refusedText, planText}
 
 -- the plan that was made, as text, or why it was refused
@@ -50,17 +45,3 @@ printed (Err fault) = refusedText 0 fault
 -- drive if the kind is 2, else cable
 abbrev pub listText : List ℕ → List ℕ
 listText bs = cond (isDrive bs) (printed (driveAnswer bs)) (printed (cableAnswer bs))
-
--- r is the answer, or says that there was no memory
-abbrev pub Answers : {Z : Type 0} → Result (String Z) Cause → Result (List ℕ) Fault → Type 0
-Answers (Ok s) answer = answer ≡ Ok (string-bytes s)
-Answers (Err (cause.File e)) answer = answer ≡ Err (fileRow e)
-Answers (Err (cause.Plan e)) answer = answer ≡ Err (planRow e)
-Answers (Err cause.Memory) answer = Unit {0}
-
--- the text says what r says; no text says that there was no memory
-abbrev pub Told : {Z : Type 0} → Result (String Z) Cause → List ℕ → Type 0
-Told (Ok s) text = text ≡ string-bytes s
-Told (Err (cause.File e)) text = text ≡ refusedText 0 (fileRow e)
-Told (Err (cause.Plan e)) text = text ≡ refusedText 0 (planRow e)
-Told (Err cause.Memory) text = ⊥

@@ -1,4 +1,5 @@
 -- What the three numbers of a run's weight mean in a file of each kind.
+use mathlib.Core.Path.{_≡_}
 use mathlib.Core.List.{List, [], _∷_}
 use mathlib.Core.Bool.{cond}
 use Prim.Native.Nat.{ℕ}
@@ -13,6 +14,10 @@ use Rattle.planfile.specs.declared.kinds.WeightFault.the-variants.{Unmeasured,
 -- the weight that three numbers stand for, or why they stand for none
 abbrev pub Weighing : Type 0 → Type 0
 Weighing W = ℕ → ℕ → ℕ → Result W WeightFault
+
+-- a weight has the numbers that it was read from
+abbrev pub Kept : {W : Type 0} → Weighing W → (W → List ℕ) → Type 0
+Kept {W} weighed numbers = (a b c : ℕ) (w : W) → weighed a b c ≡ Ok w → numbers w ≡ a ∷ b ∷ c ∷ []
 
 -- goes on with a good number, or ends with its fault
 abbrev pub andThen : {A B E : Type 0} → Result A E → (A → Result B E) → Result B E

@@ -2,7 +2,7 @@
 ghost use mathlib.Core.Path.{_≡_};
 ghost use mathlib.Core.List.{List};
 ghost use Prim.Native.Nat.{ℕ};
-ghost use Rattle.planfile.specs.Weights.{Weighing, measuredNumber, classNumber, cableWeight, driveWeight, three};
+ghost use Rattle.planfile.specs.Weights.{Kept, Weighing, measuredNumber, classNumber, cableWeight, driveWeight, three};
 use gauge::Gauge;
 use gauge::house::Cable;
 use gauge::house::CableWeight;
@@ -40,6 +40,9 @@ pub trait Kind: Gauge {
 
     // The three numbers of a weight.
     ghost numbers: { Self·Weight → List ℕ };
+
+    // A weight has the numbers that it was read from.
+    law kept: { Kept weighed numbers };
 
     fn number() -> u16
         ensures { λ r. ⌜ r ≡ number ⌝ };

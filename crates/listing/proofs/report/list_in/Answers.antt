@@ -4,7 +4,8 @@ use lib.ListN.{length, take}
 use Rattle.std.proofs.shelf.Results.{err-from-errBy}
 use Rattle.planfile.proofs.Told.{refused-runs, accepted-runs, table-runs}
 use Rattle.planfile.specs.File.{fileTable, pointsIn}
-use Rattle.listing.specs.Report.{Answers, runsListed}
+use Rattle.listing.specs.Outcome.{Answers}
+use Rattle.listing.specs.Report.{runsListed}
 use Rattle.listing.proofs.Tellings.{table-listed}
 use Rattle.listing.proofs.report.list_in.Needs as need
 
