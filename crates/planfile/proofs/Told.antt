@@ -1,6 +1,6 @@
 -- What the answer of a reading tells of the runs read.
 use mathlib.Core.Path.{_≡_, refl, ap, subst, _∙_}
-use mathlib.Core.List.{List, [], _∷_, _++_}
+use mathlib.Core.List.{List, _∷_}
 use Prim.Native.Nat.{ℕ, zero, suc, _+_, _≤_}
 use native.Mathlib.Omega.{arith}
 use lib.ListN.{length, take, drop}
@@ -10,7 +10,6 @@ use Rattle.std.specs.declared.result.Result.{Result}
 use Rattle.std.specs.declared.result.Result.the-variants.{Ok, Err}
 use Rattle.fault.specs.declared.file.FileFault.{FileFault}
 use Rattle.plan.specs.declared.runs.Run.{Run}
-use Rattle.planfile.specs.declared.kinds.WeightFault.{WeightFault}
 use Rattle.planfile.specs.declared.reader.Header.{Header}
 use Rattle.planfile.specs.Weights.{Weighing, andThen}
 use Rattle.planfile.specs.File.{pointsIn, headerAnswer, runAt, runsFrom, done, filled, fileRuns, fileAnswer, fileTable}

@@ -12,7 +12,6 @@ use Rattle.std.specs.declared.result.Result.{Result}
 use Rattle.std.specs.declared.result.Result.the-variants.{Ok, Err}
 use Rattle.fault.specs.declared.file.FileFault.{FileFault}
 use Rattle.plan.specs.declared.runs.Run.{Run}
-use Rattle.planfile.specs.declared.kinds.WeightFault.{WeightFault}
 use Rattle.planfile.specs.Weights.{Weighing, andThen}
 use Rattle.planfile.specs.File.{runAt, runsFrom, done, filled}
 

@@ -1,4 +1,3 @@
-use borrow.Author.Needs.{needs}
 use Rattle.listing.specs.Report.{cableAnswer}
 use Rattle.listing.proofs.report.list_cable.Needs as need
 

@@ -1,4 +1,3 @@
-use borrow.Author.Needs.{needs}
 use Rattle.listing.specs.Report.{driveAnswer}
 use Rattle.listing.proofs.report.list_drive.Needs as need
 

@@ -1,5 +1,4 @@
 use mathlib.Core.Path.{_∙_, sym}
-use borrow.Author.Needs.{needs}
 use Rattle.std.proofs.shelf.Results.{err-from-errBy}
 use Rattle.planfile.proofs.Turns.{done-more, done-here}
 use Rattle.planfile.proofs.reader.check_weights.Needs as need

@@ -1,9 +1,8 @@
-use mathlib.Core.Path.{_≡_, sym, subst}
+use mathlib.Core.Path.{_≡_}
 use native.Mathlib.Omega.{arith}
 use Prim.Native.Nat.{_+_}
-use lib.ListN.{length}
 use Rattle.std.proofs.shelf.Ways.{tells}
-use Rattle.plan.specs.Leave.{leavingPart, firstFrom, Leave}
+use Rattle.plan.specs.Leave.{leavingPart}
 use Rattle.plan.proofs.Tails.{first-rises, first-within, leaves}
 use Rattle.plan.proofs.plans.Plan.leaving.Needs as need
 
