@@ -1,8 +1,9 @@
 ghost use mathlib.Core.Path.{_≡_};
+ghost use Prim.Native.Nat.{ℕ};
 ghost use lib.Bits.{bitOr};
 ghost use lib.Dec.{ltb};
 ghost use Rattle.std.specs.Orderings.{Decides};
-ghost use Rattle.gauge.specs.Zones.{Among, Joined, inside, subset};
+ghost use Rattle.gauge.specs.Zones.{Among, Joined, Unites, inside, subset};
 ghost use Rattle.gauge.specs.Limits.{setAt, widestSet};
 use crate::Gauge;
 
@@ -49,8 +50,8 @@ pub impl Gauge for Set as SetGauge {
         ensures result { λ r. ⌜ r ≡ inside (now (self .entry) .allowed) (bitOr cost weight) ⌝ }
         ensures zones { λ r. ⌜ Joined (now (self .entry) .allowed) cost weight r ⌝ }
     {
-        let zones = cost | weight;
-        if zones & self.allowed == zones {
+        let zones = unite(cost, weight);
+        if among(zones, self.allowed) {
             Some(zones)
         } else {
             None
@@ -61,10 +62,27 @@ pub impl Gauge for Set as SetGauge {
         ensures result { λ r. ⌜ r ≡ subset a b ⌝ }
         ensures zones { λ r. ⌜ Decides r (Among a b) ⌝ }
     {
-        a & b == a
+        among(a, b)
     }
 
     fn before(a: u32, b: u32) -> bool {
         a < b
     }
+}
+
+// Whether every zone of a is one of b.
+fn among(a: u32, b: u32) -> bool
+    ensures result { λ r. ⌜ r ≡ subset a b ⌝ }
+    ensures zones { λ r. ⌜ Decides r (Among a b) ⌝ }
+{
+    a & b == a
+}
+
+// The zones of both, and no more.
+fn unite(a: u32, b: u32) -> u32
+    ensures result { λ r. ⌜ r ≡ bitOr a b ⌝ }
+    ensures zones { λ r. ⌜ Unites a b r ⌝ }
+    ensures least { λ r. ⌜ ((c : ℕ) → Among a c → Among b c → Among r c) ⌝ }
+{
+    a | b
 }
