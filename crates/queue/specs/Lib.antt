@@ -1,0 +1,3 @@
+pub mod Map
+pub mod Order
+pub mod InRow

@@ -1,0 +1,108 @@
+// A queue with one place for each point, searched from end to end.
+ghost use mathlib.Core.Path.{_≡_};
+ghost use denote.Ref.{now};
+ghost use lib.ListN.{length};
+ghost use Rattle.queue.specs.InRow.{rowEntries, rowWithin};
+ghost use Rattle.queue.specs.Order.{look, nearer};
+use crate::Queue;
+use crate::entries::Entry;
+use crate::entries::Held;
+use gauge::Gauge;
+
+// Place p of the lent memory is that of point p. Places past the last number of 16 bits are those of no point.
+#[derive(Drop)]
+pub struct Row<'a, G: Gauge> {
+    places: &'a mut [Option<Entry<G::Cost>>],
+}
+
+impl<'a, G: Gauge> Row<'a, G> {
+    // A row over any memory; its capacity is the number of places.
+    pub fn new(places: &'a mut [Option<Entry<G::Cost>>]) -> Row<'a, G>
+        ensures { λ r. ⌜ now (r .places) ≡ now (places .entry) ⌝ }
+    {
+        Row { places }
+    }
+}
+
+pub impl<'a, G: Gauge> Queue<G> for Row<'a, G> as RowQueue {
+    ghost room = { λ s. length (now (s .places)) };
+
+    ghost cleared = { λ s. Unit {0} };
+
+    ghost entries = { λ s. rowEntries (now (s .places)) };
+
+    ghost within = { λ s _ p h. rowWithin (now (s .places)) p h };
+
+    fn capacity(&self) -> usize {
+        self.places.len()
+    }
+
+    fn clear(&mut self) {
+        for place in self.places.iter_mut() {
+            *place = None;
+        }
+    }
+
+    fn put(&mut self, point: u16, entry: &Entry<G::Cost>) -> Result<(), u16> {
+        let at = usize::from(point);
+        if at >= self.places.len() {
+            return Err(point);
+        }
+        self.places[at] = Some(*entry);
+        Ok(())
+    }
+
+    fn find(&self, point: u16) -> Option<Entry<G::Cost>> {
+        place_of(self.places, point)
+    }
+
+    fn look(&self) -> Option<Held<G::Cost>> {
+        first_of::<G>(self.places)
+    }
+
+    fn take(&mut self) -> Option<Held<G::Cost>> {
+        let held = self.look()?;
+        let at = usize::from(held.point);
+        self.places[at] = None;
+        Some(held)
+    }
+}
+
+// The entry at the place of a point.
+fn place_of<C: Copy>(places: &[Option<Entry<C>>], point: u16) -> Option<Entry<C>>
+    ensures { λ r. ⌜ r ≡ rowEntries (now (places .entry)) point ⌝ }
+{
+    let at = usize::from(point);
+    if at < places.len() { places[at] } else { None }
+}
+
+// The first of all entries.
+fn first_of<G: Gauge>(places: &[Option<Entry<G::Cost>>]) -> Option<Held<G::Cost>>
+    ensures { λ r. ⌜ r ≡ look (G·Gauge .earlier) (rowEntries (now (places .entry))) (length (now (places .entry))) ⌝ }
+{
+    let mut first: Option<Held<G::Cost>> = None;
+    for (point, place) in (0..=u16::MAX).zip(places.iter()) {
+        first = sooner::<G>(first, point, *place);
+    }
+    first
+}
+
+// The first so far, or the entry at the next place if it comes before.
+fn sooner<G: Gauge>(first: Option<Held<G::Cost>>, point: u16, place: Option<Entry<G::Cost>>) -> Option<Held<G::Cost>>
+    ensures { λ r. ⌜ r ≡ nearer (G·Gauge .earlier) point place first ⌝ }
+{
+    let Some(entry) = place else {
+        return first;
+    };
+    let Some(best) = first else {
+        return Some(Held { point, entry });
+    };
+    if comes_before::<G>(&entry, &best.entry) { Some(Held { point, entry }) } else { Some(best) }
+}
+
+// The first entry's cost comes before the second's.
+fn comes_before<G: Gauge>(a: &Entry<G::Cost>, b: &Entry<G::Cost>) -> bool
+    ensures { λ r. ⌜ r ≡ G·Gauge .earlier (now (a .entry) .cost) (now (b .entry) .cost) ⌝ }
+{
+    G::before(a.cost, b.cost)
+}
