@@ -1,9 +1,13 @@
 // Queues: for each point at most one entry, and the entry that goes first.
 mod entries;
+mod heaps;
 mod rows;
 
 pub use entries::Entry;
 pub use entries::Held;
+pub use heaps::Heap;
+pub use heaps::HeapQueue;
+pub use heaps::slots::Slot;
 pub use rows::Row;
 pub use rows::RowQueue;
 
