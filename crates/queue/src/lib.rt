@@ -6,7 +6,6 @@ pub use entries::Entry;
 pub use entries::Held;
 pub use rows::Row;
 pub use rows::RowQueue;
-
 ghost use mathlib.Core.Path.{_≡_};
 ghost use denote.Ref.{now};
 ghost use Prim.Native.Nat.{ℕ, _≤_};

@@ -88,7 +88,11 @@ fn first_of<G: Gauge>(places: &[Option<Entry<G::Cost>>]) -> Option<Held<G::Cost>
 }
 
 // The first so far, or the entry at the next place if it comes before.
-fn sooner<G: Gauge>(first: Option<Held<G::Cost>>, point: u16, place: Option<Entry<G::Cost>>) -> Option<Held<G::Cost>>
+fn sooner<G: Gauge>(
+    first: Option<Held<G::Cost>>,
+    point: u16,
+    place: Option<Entry<G::Cost>>,
+) -> Option<Held<G::Cost>>
     ensures { λ r. ⌜ r ≡ nearer (G·Gauge .earlier) point place first ⌝ }
 {
     let Some(entry) = place else {
@@ -97,7 +101,11 @@ fn sooner<G: Gauge>(first: Option<Held<G::Cost>>, point: u16, place: Option<Entr
     let Some(best) = first else {
         return Some(Held { point, entry });
     };
-    if comes_before::<G>(&entry, &best.entry) { Some(Held { point, entry }) } else { Some(best) }
+    if comes_before::<G>(&entry, &best.entry) {
+        Some(Held { point, entry })
+    } else {
+        Some(best)
+    }
 }
 
 // The first entry's cost comes before the second's.
