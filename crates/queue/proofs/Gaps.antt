@@ -70,40 +70,40 @@ module _ {C : Type 0} (before : C → C → Bool) (entries : ℕ → Option (Ent
 
   -- the gap moves to k once what stood there stands in it; the order is to be shown for each direction
   gap-moves : ((p c : ℕ) → Below p c → c < n → p ≢ k → c ≢ k → ahead before (heldAt d s′ c) (heldAt d s′ p) ≡ false) → ((p c : ℕ) → Below p k → Below k c → c < n → ahead before (heldAt d s′ c) (heldAt d s′ p) ≡ false) → Gap before entries d s′ n k x
-  gap-moves ordered across = record
-    { fits = rw (st .room) (gap .fits)
-    ; inside = hk
-    ; own = rw (st .room) (gap .own)
-    ; noted = moved-noted
-    ; other = moved-other
-    ; ordered = ordered
-    ; across = across
-    ; in-hand = gap .in-hand
-    ; listed = moved-listed
-    ; all = moved-all
-    }
+  gap-moves ordered across = record {
+    fits = rw (st .room) (gap .fits);
+    inside = hk;
+    own = rw (st .room) (gap .own);
+    noted = moved-noted;
+    other = moved-other;
+    ordered = ordered;
+    across = across;
+    in-hand = gap .in-hand;
+    listed = moved-listed;
+    all = moved-all;
+  }
 
   pub gap-down : FirstBelow before d s n at k → Gap before entries d s′ n k x
   gap-down f = gap-moves
       (λ p c b h np nc. stood-all d s at _ s′ st (λ t. ahead before t (heldAt d s′ p) ≡ false) c
-        (λ e. rw (stood-other d s at _ s′ st p (λ z. absurd (omega (arith, above-less p c b, e, z)))) (gap .across p k (subst (Below p) e b) (f .below) hk))
-        (λ ne. stood-all d s at _ s′ st (λ t. ahead before (heldAt d s c) t ≡ false) p
-          (λ e. f .leads c (subst (λ z. Below z c) e b) h)
-          (λ nf. gap .ordered p c b h nf ne)))
+      (λ e. rw (stood-other d s at _ s′ st p (λ z. absurd (omega (arith, above-less p c b, e, z)))) (gap .across p k (subst (Below p) e b) (f .below) hk))
+      (λ ne. stood-all d s at _ s′ st (λ t. ahead before (heldAt d s c) t ≡ false) p
+      (λ e. f .leads c (subst (λ z. Below z c) e b) h)
+      (λ nf. gap .ordered p c b h nf ne)))
       (λ p c b b′ h. let e : p ≡ at = above-one p at k b (f .below) in
-        rw (e, stood-at d s at _ s′ st, stood-other d s at _ s′ st c (λ z. absurd (omega (arith, above-less at k (f .below), above-less k c b′, z))))
-          (gap .ordered k c b′ h nk (λ z. absurd (omega (arith, above-less at k (f .below), above-less k c b′, z)))))
+      rw (e, stood-at d s at _ s′ st, stood-other d s at _ s′ st c (λ z. absurd (omega (arith, above-less at k (f .below), above-less k c b′, z))))
+      (gap .ordered k c b′ h nk (λ z. absurd (omega (arith, above-less at k (f .below), above-less k c b′, z)))))
 
   pub gap-up : ((a b c : Held C) → ahead before a b ≡ false → ahead before b c ≡ false → ahead before a c ≡ false) → Below k at → Gap before entries d s′ n k x
   gap-up skips bk = gap-moves
       (λ p c b h np nc. let ne : c ≢ at = λ e. np (above-one p k at (subst (Below p) e b) bk) in
-        rw (stood-other d s at _ s′ st c ne) (stood-all d s at _ s′ st (λ t. ahead before (heldAt d s c) t ≡ false) p
-          (λ e. gap .across k c bk (subst (λ z. Below z c) e b) h)
-          (λ nf. gap .ordered p c b h nf ne)))
+      rw (stood-other d s at _ s′ st c ne) (stood-all d s at _ s′ st (λ t. ahead before (heldAt d s c) t ≡ false) p
+      (λ e. gap .across k c bk (subst (λ z. Below z c) e b) h)
+      (λ nf. gap .ordered p c b h nf ne)))
       (λ p c b b′ h. let np : p ≢ at = (λ z. absurd (omega (arith, above-less p k b, above-less k at bk, z))) in
-        rw (stood-other d s at _ s′ st p np) (stood-all d s at _ s′ st (λ t. ahead before t (heldAt d s p) ≡ false) c
-          (λ e. gap .ordered p k b hk np nk)
-          (λ ne. skips (heldAt d s c) (heldAt d s k) (heldAt d s p) (gap .ordered k c b′ h nk ne) (gap .ordered p k b hk np nk))))
+      rw (stood-other d s at _ s′ st p np) (stood-all d s at _ s′ st (λ t. ahead before t (heldAt d s p) ≡ false) c
+      (λ e. gap .ordered p k b hk np nk)
+      (λ ne. skips (heldAt d s c) (heldAt d s k) (heldAt d s p) (gap .ordered k c b′ h nk ne) (gap .ordered p k b hk np nk))))
 
 -- what was moved up does not come after what is in hand
 pub under-moved : {C : Type 0} (before : C → C → Bool) (d : Slot C) (s : List (Slot C)) (at k : ℕ) (x : Held C) (s′ : List (Slot C)) → Stood d s at (heldAt d s k) s′ → Below at k → ahead before x (heldAt d s k) ≡ false → UnderAbove before d s′ k x
@@ -122,8 +122,8 @@ module _ {C : Type 0} (before : C → C → Bool) (entries : ℕ → Option (Ent
       stood-all d s h x s′ st (λ t. ahead before t (heldAt d s′ p) ≡ false) c
       (λ e. rw (stood-other d s h x s′ st p (λ z. absurd (omega (arith, above-less p c b, e, z)))) (under p (subst (Below p) e b)))
       (λ ne. stood-all d s h x s′ st (λ t. ahead before (heldAt d s c) t ≡ false) p
-        (λ e. over c (subst (λ z. Below z c) e b) hc)
-        (λ nf. gap .ordered p c b hc nf ne))
+      (λ e. over c (subst (λ z. Below z c) e b) hc)
+      (λ nf. gap .ordered p c b hc nf ne))
 
   pub filled-listed : (i : ℕ) → i < n → entries (heldAt d s′ i .point) ≡ Some (heldAt d s′ i .entry)
   filled-listed i hi = stood-all d s h x s′ st (λ t. entries (t .point) ≡ Some (t .entry)) i (λ e. gap .in-hand) (λ ne. gap .listed i hi ne)

@@ -1,7 +1,8 @@
-pub mod Views
-pub mod Pigeons
+pub mod Finds
 pub mod Gaps
 pub mod Levels
-pub mod Finds
 pub mod Looks
 pub mod Openings
+pub mod Pigeons
+pub mod RowPlaces
+pub mod Views

@@ -38,57 +38,58 @@ module _ {C : Type 0} (no-worse before : C → C → Bool) (laws : Compares C no
       ⊎-elim
       (λ (e : i ≡ 0). rw e (ahead-self no-worse before laws (heldAt d s 0)))
       (λ (ne : i ≢ 0). let up = has-above i (omega arith) in
-        let less = above-less (up .0) i (up .1) in
-        ahead-trans-not no-worse before laws (heldAt d s i) (heldAt d s (up .0)) (heldAt d s 0) (heap .ordered d (up .0) i (up .1) hi) (root-leads k (up .0) (omega arith) (omega arith)))
+      let less = above-less (up .0) i (up .1) in
+      ahead-trans-not no-worse before laws (heldAt d s i) (heldAt d s (up .0)) (heldAt d s 0) (heap .ordered d (up .0) i (up .1) hi) (root-leads k (up .0) (omega arith) (omega arith)))
       (cases-eq i 0)
 
   pub root-first : 0 < n → Leads before (heapEntries s n) (heldAt d s 0)
-  root-first h = record
-    { there = entry-here d s n (heap .fits) (heap .noted d) 0 h
-    ; unbeaten = λ p e is.
+  root-first h = record {
+    there = entry-here d s n (heap .fits) (heap .noted d) 0 h;
+    unbeaten = λ p e is.
         let w = entry-somewhere d s n p e (heap .fits) is in
         let here = entry-here d s n (heap .fits) (heap .noted d) (w .0) (w .1) in
         let same : heldAt d s (w .0) .entry ≡ e = let point = w .2 in grind arith in
         subst (λ t. ahead before (record { point = p; entry = t }) (heldAt d s 0) ≡ false) same
-          (subst (λ t. ahead before (record { point = t; entry = heldAt d s (w .0) .entry }) (heldAt d s 0) ≡ false) (w .2) (root-leads (suc (w .0)) (w .0) (omega arith) (w .1)))
-    }
+        (subst (λ t. ahead before (record { point = t; entry = heldAt d s (w .0) .entry }) (heldAt d s 0) ≡ false) (w .2) (root-leads (suc (w .0)) (w .0) (omega arith) (w .1)));
+  }
 
   -- the entry of a point that has one, taken in hand to be replaced
   pub gap-old : (x : Held C) (a : ℕ) → a < n → heldAt d s a .point ≡ x .point → Gap before (afterPut (length s) (heapEntries s n) (x .point) (x .entry)) d s n a x
-  gap-old x a ha is = record
-    { fits = heap .fits
-    ; inside = ha
-    ; own = own
-    ; noted = λ i hi ne. heap .noted d i hi
-    ; other = other
-    ; ordered = λ p c b hc np nc. heap .ordered d p c b hc
-    ; across = λ p c b b′ hc. ahead-trans-not no-worse before laws (heldAt d s c) (heldAt d s a) (heldAt d s p) (heap .ordered d a c b′ hc) (heap .ordered d p a b ha)
-    ; in-hand = put-own (length s) (heapEntries s n) (x .point) (x .entry) own
-    ; listed = λ i hi ne. put-other (length s) (heapEntries s n) (x .point) (x .entry) (heldAt d s i .point) (other i hi ne) ∙ entry-here d s n (heap .fits) (heap .noted d) i hi
-    ; all = λ p e q ne. let w = entry-somewhere d s n p e (heap .fits) (sym (put-other (length s) (heapEntries s n) (x .point) (x .entry) p ne) ∙ q) in
-        (w .0, w .1, (λ z. ne (sym (w .2) ∙ ap (λ t. heldAt d s t .point) z ∙ is)), w .2)
-    }
+  gap-old x a ha is = record {
+    fits = heap .fits;
+    inside = ha;
+    own = own;
+    noted = λ i hi ne. heap .noted d i hi;
+    other = other;
+    ordered = λ p c b hc np nc. heap .ordered d p c b hc;
+    across = λ p c b b′ hc. ahead-trans-not no-worse before laws (heldAt d s c) (heldAt d s a) (heldAt d s p) (heap .ordered d a c b′ hc) (heap .ordered d p a b ha);
+    in-hand = put-own (length s) (heapEntries s n) (x .point) (x .entry) own;
+    listed = λ i hi ne. put-other (length s) (heapEntries s n) (x .point) (x .entry) (heldAt d s i .point) (other i hi ne) ∙ entry-here d s n (heap .fits) (heap .noted d) i hi;
+    all = λ p e q ne. let w = entry-somewhere d s n p e (heap .fits) (sym (put-other (length s) (heapEntries s n) (x .point) (x .entry) p ne) ∙ q) in
+        (w .0, w .1, (λ z. ne (sym (w .2) ∙ ap (λ t. heldAt d s t .point) z ∙ is)), w .2);
+  }
     where
       own : x .point < length s
       own = subst (λ t. t < length s) is (heap .noted d a ha .0)
+
       other : (i : ℕ) → i < n → i ≢ a → heldAt d s i .point ≢ x .point
       other i hi ne e = ne (one-place d s n (heap .fits) (heap .noted d) i a hi ha (e ∙ sym is))
 
   -- a place after the last, for a point that has no entry
   pub gap-new : (x : Held C) → n < length s → x .point < length s → ((i : ℕ) → i < n → heldAt d s i .point ≢ x .point) → Gap before (afterPut (length s) (heapEntries s n) (x .point) (x .entry)) d s (n + 1) n x
-  gap-new x room own other = record
-    { fits = omega arith
-    ; inside = omega arith
-    ; own = own
-    ; noted = λ i hi ne. heap .noted d i (omega arith)
-    ; other = λ i hi ne. other i (omega arith)
-    ; ordered = λ p c b hc np nc. heap .ordered d p c b (omega arith)
-    ; across = λ p c b b′ hc. absurd (omega (arith, above-less n c b′))
-    ; in-hand = put-own (length s) (heapEntries s n) (x .point) (x .entry) own
-    ; listed = λ i hi ne. let l : i < n = omega arith in put-other (length s) (heapEntries s n) (x .point) (x .entry) (heldAt d s i .point) (other i l) ∙ entry-here d s n (heap .fits) (heap .noted d) i l
-    ; all = λ p e q ne. let w = entry-somewhere d s n p e (heap .fits) (sym (put-other (length s) (heapEntries s n) (x .point) (x .entry) p ne) ∙ q) in
-        let l = w .1 in (w .0, omega arith, omega arith, w .2)
-    }
+  gap-new x room own other = record {
+    fits = omega arith;
+    inside = omega arith;
+    own = own;
+    noted = λ i hi ne. heap .noted d i (omega arith);
+    other = λ i hi ne. other i (omega arith);
+    ordered = λ p c b hc np nc. heap .ordered d p c b (omega arith);
+    across = λ p c b b′ hc. absurd (omega (arith, above-less n c b′));
+    in-hand = put-own (length s) (heapEntries s n) (x .point) (x .entry) own;
+    listed = λ i hi ne. let l : i < n = omega arith in put-other (length s) (heapEntries s n) (x .point) (x .entry) (heldAt d s i .point) (other i l) ∙ entry-here d s n (heap .fits) (heap .noted d) i l;
+    all = λ p e q ne. let w = entry-somewhere d s n p e (heap .fits) (sym (put-other (length s) (heapEntries s n) (x .point) (x .entry) p ne) ∙ q) in
+        let l = w .1 in (w .0, omega arith, omega arith, w .2);
+  }
 
   -- there is such a place: the points of the entries and one more are below the capacity
   pub room-left : (point : ℕ) → point < length s → ((i : ℕ) → i < n → heldAt d s i .point ≢ point) → n < length s
@@ -96,25 +97,29 @@ module _ {C : Type 0} (no-worse before : C → C → Bool) (laws : Compares C no
     where
       points : ℕ → ℕ
       points i = cond (eqb i n) point (heldAt d s i .point)
+
       at-n : points n ≡ point
       at-n = rw (eq-eqb n n refl)
+
       at-i : (i : ℕ) → i ≢ n → points i ≡ heldAt d s i .point
       at-i i ne = rw (ne-eqb i n ne)
+
       low : (i : ℕ) → i < suc n → points i < length s
       low i hi = ⊎-elim (λ (e : i ≡ n). rw (e, at-n) own) (λ (ne : i ≢ n). rw (at-i i ne) (heap .noted d i (omega arith) .0)) (cases-eq i n)
+
       apart : Apart (suc n) points
       apart i j hi hj e =
           ⊎-elim
           (λ (a : i ≡ n). ⊎-elim (λ (b : j ≡ n). a ∙ sym b) (λ (b : j ≢ n). absurd (other j (omega arith) (sym (at-i j b) ∙ sym e ∙ ap points a ∙ at-n))) (cases-eq j n))
           (λ (a : i ≢ n). ⊎-elim (λ (b : j ≡ n). absurd (other i (omega arith) (sym (at-i i a) ∙ e ∙ ap points b ∙ at-n)))
-            (λ (b : j ≢ n). one-place d s n (heap .fits) (heap .noted d) i j (omega arith) (omega arith) (sym (at-i i a) ∙ e ∙ at-i j b)) (cases-eq j n))
+          (λ (b : j ≢ n). one-place d s n (heap .fits) (heap .noted d) i j (omega arith) (omega arith) (sym (at-i i a) ∙ e ∙ at-i j b)) (cases-eq j n))
           (cases-eq i n)
 
   -- the entries but the first are those at the other places
   pub rest-listed : 0 < n → (i : ℕ) → i < n → i ≢ 0 → without (heapEntries s n) (Some (heldAt d s 0)) (heldAt d s i .point) ≡ Some (heldAt d s i .entry)
   rest-listed h i hi ne =
       rw (ne-eqb (heldAt d s i .point) (heldAt d s 0 .point) (λ e. ne (one-place d s n (heap .fits) (heap .noted d) i 0 hi h e)))
-        (entry-here d s n (heap .fits) (heap .noted d) i hi)
+      (entry-here d s n (heap .fits) (heap .noted d) i hi)
 
   pub rest-all : (p : ℕ) (e : Entry C) → without (heapEntries s n) (Some (heldAt d s 0)) p ≡ Some e → (i : ℕ) × (i < n) × (i ≢ 0) × (heldAt d s i .point ≡ p)
   rest-all p e is =
@@ -125,6 +130,7 @@ module _ {C : Type 0} (no-worse before : C → C → Bool) (laws : Compares C no
     where
       none : p ≡ heldAt d s 0 .point → ⊥
       none z = let t = eq-eqb p (heldAt d s 0 .point) z in grind (arith, tells)
+
       kept : p ≢ heldAt d s 0 .point → without (heapEntries s n) (Some (heldAt d s 0)) p ≡ heapEntries s n p
       kept ne = rw (ne-eqb p (heldAt d s 0 .point) ne)
 
@@ -134,25 +140,25 @@ module _ {C : Type 0} (no-worse before : C → C → Bool) (laws : Compares C no
 
   -- the first entry gone, and the last in hand to fill its place
   gap-first : (m : ℕ) → n ≡ m + 1 → 0 < m → Gap before (without (heapEntries s n) (Some (heldAt d s 0))) d s m 0 (heldAt d s m)
-  gap-first m is h = record
-    { fits = omega (arith, heap .fits)
-    ; inside = h
-    ; own = heap .noted d m (omega arith) .0
-    ; noted = λ i hi ne. heap .noted d i (omega arith)
-    ; other = λ i hi ne e. let same : i ≡ m = one-place d s n (heap .fits) (heap .noted d) i m (omega arith) (omega arith) e in absurd (omega arith)
-    ; ordered = λ p c b hc np nc. heap .ordered d p c b (omega arith)
-    ; across = λ p c b b′ hc. absurd (omega (arith, above-less p 0 b))
-    ; in-hand = rest-listed (omega arith) m (omega arith) (omega arith)
-    ; listed = λ i hi ne. rest-listed (omega arith) i (omega arith) ne
-    ; all = λ p e q ne. let w = rest-all p e q in let l = w .1 in
+  gap-first m is h = record {
+    fits = omega (arith, heap .fits);
+    inside = h;
+    own = heap .noted d m (omega arith) .0;
+    noted = λ i hi ne. heap .noted d i (omega arith);
+    other = λ i hi ne e. let same : i ≡ m = one-place d s n (heap .fits) (heap .noted d) i m (omega arith) (omega arith) e in absurd (omega arith);
+    ordered = λ p c b hc np nc. heap .ordered d p c b (omega arith);
+    across = λ p c b b′ hc. absurd (omega (arith, above-less p 0 b));
+    in-hand = rest-listed (omega arith) m (omega arith) (omega arith);
+    listed = λ i hi ne. rest-listed (omega arith) i (omega arith) ne;
+    all = λ p e q ne. let w = rest-all p e q in let l = w .1 in
         let other : w .0 ≢ m = λ z. ne (sym (w .3) ∙ ap (λ t. heldAt d s t .point) z) in
-        (w .0, omega arith, w .2, w .3)
-    }
+        (w .0, omega arith, w .2, w .3);
+  }
 
   pub gap-taken : (m : ℕ) → n ≡ m + 1 → 0 < m → (first : Option (Held C)) → First before (heapEntries s n) first → (x : Held C) → x ≡ heldAt d s m → Gap before (without (heapEntries s n) first) d s m 0 x
   gap-taken m is h first leads x same =
       subst (λ t. Gap before (without (heapEntries s n) t) d s m 0 x) (sym (first-root (omega arith) first leads))
-        (subst (Gap before (without (heapEntries s n) (Some (heldAt d s 0))) d s m 0) (sym same) (gap-first m is h))
+      (subst (Gap before (without (heapEntries s n) (Some (heldAt d s 0))) d s m 0) (sym same) (gap-first m is h))
 
   -- where the first entry was the last, none is left
   pub none-left : n ≡ 1 → (first : Option (Held C)) → First before (heapEntries s n) first → (p : ℕ) → without (heapEntries s n) first p ≡ None

@@ -25,9 +25,9 @@ swapped-below : (k n : ℕ) (g : ℕ → ℕ) → ((i : ℕ) → i < suc n → g
 swapped-below k n g low apart i h =
     ⊎-elim
     (λ (e : g i ≡ k). rw (swapped-top k n g i e) (⊎-elim
-      (λ (e′ : g n ≡ k). let same : i ≡ n = apart i n (omega arith) (omega arith) (e ∙ sym e′) in absurd (omega arith))
-      (λ (ne : g n ≢ k). let l = low n (omega arith) in omega arith)
-      (cases-eq (g n) k)))
+    (λ (e′ : g n ≡ k). let same : i ≡ n = apart i n (omega arith) (omega arith) (e ∙ sym e′) in absurd (omega arith))
+    (λ (ne : g n ≢ k). let l = low n (omega arith) in omega arith)
+    (cases-eq (g n) k)))
     (λ (ne : g i ≢ k). rw (swapped-else k n g i ne) (let l = low i (omega arith) in omega arith))
     (cases-eq (g i) k)
 
@@ -35,13 +35,13 @@ swapped-apart : (k n : ℕ) (g : ℕ → ℕ) → Apart (suc n) g → Apart n (s
 swapped-apart k n g apart i j hi hj e =
     ⊎-elim
     (λ (a : g i ≡ k). ⊎-elim
-      (λ (b : g j ≡ k). apart i j (omega arith) (omega arith) (a ∙ sym b))
-      (λ (b : g j ≢ k). let same : n ≡ j = apart n j (omega arith) (omega arith) (sym (swapped-top k n g i a) ∙ e ∙ swapped-else k n g j b) in absurd (omega arith))
-      (cases-eq (g j) k))
+    (λ (b : g j ≡ k). apart i j (omega arith) (omega arith) (a ∙ sym b))
+    (λ (b : g j ≢ k). let same : n ≡ j = apart n j (omega arith) (omega arith) (sym (swapped-top k n g i a) ∙ e ∙ swapped-else k n g j b) in absurd (omega arith))
+    (cases-eq (g j) k))
     (λ (a : g i ≢ k). ⊎-elim
-      (λ (b : g j ≡ k). let same : i ≡ n = apart i n (omega arith) (omega arith) (sym (swapped-else k n g i a) ∙ e ∙ swapped-top k n g j b) in absurd (omega arith))
-      (λ (b : g j ≢ k). apart i j (omega arith) (omega arith) (sym (swapped-else k n g i a) ∙ e ∙ swapped-else k n g j b))
-      (cases-eq (g j) k))
+    (λ (b : g j ≡ k). let same : i ≡ n = apart i n (omega arith) (omega arith) (sym (swapped-else k n g i a) ∙ e ∙ swapped-top k n g j b) in absurd (omega arith))
+    (λ (b : g j ≢ k). apart i j (omega arith) (omega arith) (sym (swapped-else k n g i a) ∙ e ∙ swapped-else k n g j b))
+    (cases-eq (g j) k))
     (cases-eq (g i) k)
 
 -- n different numbers below k are at most k

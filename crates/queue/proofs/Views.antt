@@ -35,11 +35,11 @@ module _ {X Y : Type 0} (f : X → Y) (d : X) (xs : List X) (at : ℕ) (v : X) (
 module _ {C : Type 0} (d : Slot C) (s : List (Slot C)) where
   -- a note at a place that is there
   pub noted-here : (point at : ℕ) (y : Slot C) → point < length s → Noted d s point at (set s point (record { held = getD s point y .held; place = at }))
-  noted-here point at y inside = record
-    { room = length-set s point _
-    ; held = read-kept (λ t. t .held) d s point _ inside (ap (λ t. t .held) (getD-default s point y d inside))
-    ; place = λ p. read-set (λ t. t .place) d s point _ inside p ∙ here p
-    }
+  noted-here point at y inside = record {
+    room = length-set s point _;
+    held = read-kept (λ t. t .held) d s point _ inside (ap (λ t. t .held) (getD-default s point y d inside));
+    place = λ p. read-set (λ t. t .place) d s point _ inside p ∙ here p;
+  }
     where
       here : (p : ℕ) → cond (eqb p point) at (placeOf d s p) ≡ cond (eqb p point && ltb p (length s)) at (placeOf d s p)
       here p = grind (arith, tells)
@@ -50,8 +50,8 @@ module _ {C : Type 0} (d : Slot C) (s : List (Slot C)) where
 
   -- a write and its note
   pub stood-is : (at : ℕ) (x : Held C) (y : Slot C) (new : List (Slot C)) → at < length s → Noted d (set s at (record { held = x; place = getD s at y .place })) (x .point) at new → Stood d s at x new
-  stood-is at x y new inside n = record
-    { room = n .room ∙ length-set s at _
-    ; held = λ i. n .held i ∙ read-set (λ t. t .held) d s at _ inside i
-    ; place = λ p. n .place p ∙ rw (length-set s at (record { held = x; place = getD s at y .place })) (ap (λ t. cond (eqb p (x .point) && ltb p (length s)) at t) (read-kept (λ t. t .place) d s at _ inside (ap (λ t. t .place) (getD-default s at y d inside)) p))
-    }
+  stood-is at x y new inside n = record {
+    room = n .room ∙ length-set s at _;
+    held = λ i. n .held i ∙ read-set (λ t. t .held) d s at _ inside i;
+    place = λ p. n .place p ∙ rw (length-set s at (record { held = x; place = getD s at y .place })) (ap (λ t. cond (eqb p (x .point) && ltb p (length s)) at t) (read-kept (λ t. t .place) d s at _ inside (ap (λ t. t .place) (getD-default s at y d inside)) p));
+  }

@@ -66,7 +66,10 @@ pub impl<'a, G: Gauge> Queue<G> for Heap<'a, G> as HeapQueue {
         if point as usize >= self.slots.len() {
             return Err(point);
         }
-        let held = Held { point, entry: *entry };
+        let held = Held {
+            point,
+            entry: *entry,
+        };
         let count = self.count();
         self.used = set_entry::<G>(self.slots, count, &held);
         Ok(())

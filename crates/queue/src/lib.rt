@@ -10,7 +10,6 @@ pub use heaps::HeapQueue;
 pub use heaps::slots::Slot;
 pub use rows::Row;
 pub use rows::RowQueue;
-
 ghost use mathlib.Core.Path.{_≡_};
 ghost use denote.Ref.{now};
 ghost use Prim.Native.Nat.{ℕ, _≤_};

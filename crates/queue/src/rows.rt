@@ -2,11 +2,13 @@
 ghost use mathlib.Core.Path.{_≡_};
 ghost use denote.Ref.{now};
 ghost use lib.ListN.{length};
-ghost use Rattle.queue.specs.InRow.{rowEntries, rowWithin};
+ghost use Rattle.queue.specs.InRow.{rowEntries};
+ghost use Rattle.queue.specs.Within.{rowWithin};
 ghost use Rattle.queue.specs.Order.{look, nearer};
 use crate::Queue;
 use crate::entries::Entry;
 use crate::entries::Held;
+use crate::entries::comes_before;
 use gauge::Gauge;
 
 // Place p of the lent memory is that of point p. Places past the last number of 16 bits are those of no point.
@@ -81,14 +83,21 @@ fn first_of<G: Gauge>(places: &[Option<Entry<G::Cost>>]) -> Option<Held<G::Cost>
     ensures { λ r. ⌜ r ≡ look (G·Gauge .earlier) (rowEntries (now (places .entry))) (length (now (places .entry))) ⌝ }
 {
     let mut first: Option<Held<G::Cost>> = None;
-    for (point, place) in (0..=u16::MAX).zip(places.iter()) {
+    for (at, place) in places.iter().enumerate() {
+        let Ok(point) = u16::try_from(at) else {
+            return first;
+        };
         first = sooner::<G>(first, point, *place);
     }
     first
 }
 
 // The first so far, or the entry at the next place if it comes before.
-fn sooner<G: Gauge>(first: Option<Held<G::Cost>>, point: u16, place: Option<Entry<G::Cost>>) -> Option<Held<G::Cost>>
+fn sooner<G: Gauge>(
+    first: Option<Held<G::Cost>>,
+    point: u16,
+    place: Option<Entry<G::Cost>>,
+) -> Option<Held<G::Cost>>
     ensures { λ r. ⌜ r ≡ nearer (G·Gauge .earlier) point place first ⌝ }
 {
     let Some(entry) = place else {
@@ -97,12 +106,9 @@ fn sooner<G: Gauge>(first: Option<Held<G::Cost>>, point: u16, place: Option<Entr
     let Some(best) = first else {
         return Some(Held { point, entry });
     };
-    if comes_before::<G>(&entry, &best.entry) { Some(Held { point, entry }) } else { Some(best) }
-}
-
-// The first entry's cost comes before the second's.
-fn comes_before<G: Gauge>(a: &Entry<G::Cost>, b: &Entry<G::Cost>) -> bool
-    ensures { λ r. ⌜ r ≡ G·Gauge .earlier (now (a .entry) .cost) (now (b .entry) .cost) ⌝ }
-{
-    G::before(a.cost, b.cost)
+    if comes_before::<G>(&entry, &best.entry) {
+        Some(Held { point, entry })
+    } else {
+        Some(best)
+    }
 }

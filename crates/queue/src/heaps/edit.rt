@@ -29,11 +29,19 @@ fn place_of<C: Copy>(slots: &[Slot<C>], count: usize, point: u16) -> Option<usiz
         return None;
     }
     let at = noted_at(slots, own);
-    if at < count && held_at(slots, at).point == point { Some(at) } else { None }
+    if at < count && held_at(slots, at).point == point {
+        Some(at)
+    } else {
+        None
+    }
 }
 
 // The entry of a point.
-pub(crate) fn entry_of<G: Gauge>(slots: &[Slot<G::Cost>], count: usize, point: u16) -> Option<Entry<G::Cost>>
+pub(crate) fn entry_of<G: Gauge>(
+    slots: &[Slot<G::Cost>],
+    count: usize,
+    point: u16,
+) -> Option<Entry<G::Cost>>
     requires { ⌜ count ≤ length (now slots) ⌝ }
     ensures { λ r. ⌜ (Heaped (G·Gauge .earlier) (now (slots .entry)) count → r ≡ heapEntries (now (slots .entry)) count point) ⌝ }
 {
@@ -46,11 +54,19 @@ pub(crate) fn first_of<G: Gauge>(slots: &[Slot<G::Cost>], count: usize) -> Optio
     requires { ⌜ count ≤ length (now slots) ⌝ }
     ensures { λ r. ⌜ (Heaped (G·Gauge .earlier) (now (slots .entry)) count → First (G·Gauge .earlier) (heapEntries (now (slots .entry)) count) r) ⌝ }
 {
-    if count == 0 { None } else { Some(held_at(slots, 0)) }
+    if count == 0 {
+        None
+    } else {
+        Some(held_at(slots, 0))
+    }
 }
 
 // Sets the entry of a point that has a place. Answers how many entries there are then.
-pub(crate) fn set_entry<G: Gauge>(slots: &mut [Slot<G::Cost>], count: usize, held: &Held<G::Cost>) -> usize
+pub(crate) fn set_entry<G: Gauge>(
+    slots: &mut [Slot<G::Cost>],
+    count: usize,
+    held: &Held<G::Cost>,
+) -> usize
     requires { ⌜ count ≤ length (now slots) ⌝ ∗ ⌜ now held .point < length (now slots) ⌝ }
     ensures room { λ _. ⌜ length (now (slots .exit)) ≡ length (now (slots .entry)) ⌝ }
     ensures heap { λ r. ⌜ (Heaped (G·Gauge .earlier) (now (slots .entry)) count → Heaped (G·Gauge .earlier) (now (slots .exit)) r × ((p : ℕ) → heapEntries (now (slots .exit)) r p ≡ afterPut (length (now (slots .entry))) (heapEntries (now (slots .entry)) count) (now (held .entry) .point) (now (held .entry) .entry) p)) ⌝ }

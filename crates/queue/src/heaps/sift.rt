@@ -9,8 +9,8 @@ ghost use Rattle.queue.specs.declared.heaps.slots.Slot.{Slot};
 ghost use Rattle.queue.specs.InHeap.{Below, Heaped, heapEntries, heldAt};
 ghost use Rattle.queue.specs.Order.{ahead};
 ghost use Rattle.queue.specs.Sifting.{FirstBelow, Gap, LeadsBelow, OverBelow, UnderAbove};
-use crate::entries::Entry;
 use crate::entries::Held;
+use crate::entries::comes_before;
 use crate::heaps::slots::Slot;
 use crate::heaps::slots::held_at;
 use crate::heaps::slots::stand;
@@ -35,12 +35,6 @@ fn goes_before<G: Gauge>(a: &Held<G::Cost>, b: &Held<G::Cost>) -> bool
         return true;
     }
     !comes_before::<G>(&b.entry, &a.entry) && a.point < b.point
-}
-
-fn comes_before<G: Gauge>(a: &Entry<G::Cost>, b: &Entry<G::Cost>) -> bool
-    ensures { λ r. ⌜ r ≡ G·Gauge .earlier (now (a .entry) .cost) (now (b .entry) .cost) ⌝ }
-{
-    G::before(a.cost, b.cost)
 }
 
 // Moves the gap up past every entry that the one in hand goes before. Answers where the gap is then.
@@ -85,7 +79,12 @@ fn first_below<G: Gauge>(slots: &[Slot<G::Cost>], count: usize, place: usize) ->
 }
 
 // Moves the gap down past every entry that goes before the one in hand. Answers where the gap is then.
-fn sink<G: Gauge>(slots: &mut [Slot<G::Cost>], count: usize, gap: usize, held: &Held<G::Cost>) -> usize
+fn sink<G: Gauge>(
+    slots: &mut [Slot<G::Cost>],
+    count: usize,
+    gap: usize,
+    held: &Held<G::Cost>,
+) -> usize
     requires { ⌜ gap < count ⌝ ∗ ⌜ count ≤ length (now slots) ⌝ }
     ensures room { λ _. ⌜ length (now (slots .exit)) ≡ length (now (slots .entry)) ⌝ }
     ensures inside { λ r. ⌜ r < count ⌝ }
@@ -104,7 +103,12 @@ fn sink<G: Gauge>(slots: &mut [Slot<G::Cost>], count: usize, gap: usize, held: &
 }
 
 // Lets the entry in hand find its place, and stand there.
-pub(crate) fn settle<G: Gauge>(slots: &mut [Slot<G::Cost>], count: usize, gap: usize, held: &Held<G::Cost>)
+pub(crate) fn settle<G: Gauge>(
+    slots: &mut [Slot<G::Cost>],
+    count: usize,
+    gap: usize,
+    held: &Held<G::Cost>,
+)
     requires { ⌜ gap < count ⌝ ∗ ⌜ count ≤ length (now slots) ⌝ }
     ensures room { λ _. ⌜ length (now (slots .exit)) ≡ length (now (slots .entry)) ⌝ }
     ensures heap { λ _. ⌜ ((entries : ℕ → Option (Entry G·Cost)) → ((d : Slot G·Cost) → Gap (G·Gauge .earlier) entries d (now (slots .entry)) count gap (now (held .entry))) → Heaped (G·Gauge .earlier) (now (slots .exit)) count × ((p : ℕ) → heapEntries (now (slots .exit)) count p ≡ entries p)) ⌝ }

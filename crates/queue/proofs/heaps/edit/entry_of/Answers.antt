@@ -19,4 +19,4 @@ returns g c = λ heap.
     let d : Slot _ = record { held = c .held-at .result; place = 0 } in
     let at = c .in-Continue-at .ensures tt .standing d in
     ap (λ t. Some (t .entry)) (c .held-at .ensures d) ∙ sym (subst (λ t. heapEntries (c .args .slots .now) (c .args .count) t ≡ Some (heldAt d (c .args .slots .now) (c .in-Continue-at .at) .entry)) (at .1)
-      (entry-here d (c .args .slots .now) (c .args .count) (heap .fits) (heap .noted d) (c .in-Continue-at .at) (at .0)))
+    (entry-here d (c .args .slots .now) (c .args .count) (heap .fits) (heap .noted d) (c .in-Continue-at .at) (at .0)))

@@ -12,7 +12,7 @@ abbrev pub Inv-loop-next : given.InvT-loop-next
 Inv-loop-next g l =
     (l .at < l .count) × (length (l .slots) ≡ length (l .entry .slots)) × (l .count ≤ length (l .slots)) ×
     ((d : Slot _) (entries : ℕ → Option (Entry _)) → Gap (g .G·Gauge .earlier) entries d (l .entry .slots) (l .count) (l .gap) (l .held) → UnderAbove (g .G·Gauge .earlier) d (l .entry .slots) (l .gap) (l .held) →
-      Gap (g .G·Gauge .earlier) entries d (l .slots) (l .count) (l .at) (l .held) × UnderAbove (g .G·Gauge .earlier) d (l .slots) (l .at) (l .held))
+    Gap (g .G·Gauge .earlier) entries d (l .slots) (l .count) (l .at) (l .held) × UnderAbove (g .G·Gauge .earlier) d (l .slots) (l .at) (l .held))
 
 abbrev pub μ-loop-next : given.MeasureT-loop-next
 μ-loop-next g l = l .count - l .at
