@@ -1,5 +1,6 @@
 // A queue over a heap in lent memory.
 mod edit;
+mod levels;
 mod sift;
 pub mod slots;
 

@@ -6,26 +6,18 @@ ghost use lib.ListN.{length};
 ghost use Rattle.std.specs.declared.option.Option.{Option};
 ghost use Rattle.queue.specs.declared.entries.Entry.{Entry};
 ghost use Rattle.queue.specs.declared.heaps.slots.Slot.{Slot};
-ghost use Rattle.queue.specs.InHeap.{Below, Heaped, heapEntries, heldAt};
+ghost use Rattle.queue.specs.InHeap.{Heaped, heapEntries, heldAt};
 ghost use Rattle.queue.specs.Order.{ahead};
 ghost use Rattle.queue.specs.Sifting.{FirstBelow, Gap, LeadsBelow, OverBelow, UnderAbove};
 use crate::entries::Held;
 use crate::entries::comes_before;
+use crate::heaps::levels::above;
+use crate::heaps::levels::below;
 use crate::heaps::slots::Slot;
 use crate::heaps::slots::held_at;
 use crate::heaps::slots::stand;
 use gauge::Gauge;
-
-// How many places stand right below each.
-const ARITY: usize = 2;
-
-// The place right above one that is not the first.
-fn above(place: usize) -> usize
-    requires { ⌜ 0 < place ⌝ }
-    ensures { λ r. ⌜ Below r place ⌝ }
-{
-    (place - 1) >> 1
-}
+use std::ops::Range;
 
 // The first entry goes before the second.
 fn goes_before<G: Gauge>(a: &Held<G::Cost>, b: &Held<G::Cost>) -> bool
@@ -62,11 +54,10 @@ fn first_below<G: Gauge>(slots: &[Slot<G::Cost>], count: usize, place: usize) ->
     requires { ⌜ count ≤ length (now slots) ⌝ }
     ensures { λ r. ⌜ ((d : Slot G·Cost) → LeadsBelow (G·Gauge .earlier) d (now (slots .entry)) count place r) ⌝ }
 {
-    let start = place.saturating_mul(ARITY).saturating_add(1);
-    if start >= count {
+    let Range { start, end } = below(place, count);
+    if start >= end {
         return None;
     }
-    let end = start.saturating_add(ARITY).min(count);
     let mut first = start;
     for next in start + 1..end {
         let leader = held_at(slots, first);

@@ -10,12 +10,21 @@ use Rattle.queue.proofs.Looks.{ahead-self}
 use Rattle.queue.proofs.heaps.sift.first_below.Needs as need
 use Rattle.queue.proofs.heaps.sift.first_below.Needs.{then-goes-before, else-goes-before}
 
+pub returns-then-start-end : need.returns-then-start-end
+returns-then-start-end g c = λ d q b h. let span = c .below-start .ensures q .0 (b, h) in absurd (omega (arith, span .0, span .1, c .if-start-end .taken))
+
+pub held-at-leader-requires : need.held-at-leader-requires
+held-at-leader-requires g c κs = omega (arith, c .below-start .ensures (c .loop-next .first) .1 (c .loop-next .inv .0, c .loop-next .inv .1) .1, c .pre)
+
+pub held-at-other-requires : need.held-at-other-requires
+held-at-other-requires g c κs = omega (arith, c .below-start .ensures (c .loop-next .next) .1 (omega (arith, c .loop-next .inv .2), c .loop-next-test .taken) .1, c .pre)
+
 pub loop-next-holds : need.loop-next-holds
 loop-next-holds g c = (
   omega arith,
-  omega (arith, c .min-end .ensures, c .saturating-add .ensures, c .if-start-count .left),
+  c .if-start-end .left,
   omega arith,
-  λ d q low high. let e : q ≡ c .saturating-add-start .result = omega arith in rw e (ahead-self _ (g .G·Gauge .earlier) (g .G·Gauge·met .compares) (heldAt d (c .args .slots .now) (c .saturating-add-start .result))),
+  λ d q low high. let e : q ≡ c .below-start .result .start = omega arith in rw e (ahead-self _ (g .G·Gauge .earlier) (g .G·Gauge·met .compares) (heldAt d (c .args .slots .now) (c .below-start .result .start))),
 )
 
 pub loop-next-again : need.loop-next-again
@@ -41,8 +50,10 @@ loop-next-again g c =
     told d = rw (sym (c .held-at-other .ensures d), sym (c .held-at-leader .ensures d)) (sym (c .goes-before .ensures))
 
 pub returns : need.returns
-returns g c = λ d. record {
-  below = (omega (arith, c .saturating-mul .ensures, c .saturating-add-start .ensures, c .saturating-add .ensures, c .min-end .ensures, c .loop-next .inv .0, c .loop-next .inv .1, c .if-start-count .left), omega (arith, c .saturating-mul .ensures, c .saturating-add-start .ensures, c .saturating-add .ensures, c .min-end .ensures, c .loop-next .inv .0, c .loop-next .inv .1, c .if-start-count .left));
-  inside = omega (arith, c .min-end .ensures, c .loop-next .inv .1);
-  leads = λ q b h. c .loop-next .inv .3 d q (omega (arith, b .0, c .saturating-mul .ensures, c .saturating-add-start .ensures)) (omega (arith, b .0, b .1, h, c .saturating-mul .ensures, c .saturating-add-start .ensures, c .saturating-add .ensures, c .min-end .ensures, c .loop-next-test .left));
-}
+returns g c = λ d.
+    let found = c .below-start .ensures (c .loop-next .first) .1 (c .loop-next .inv .0, c .loop-next .inv .1) in
+    record {
+      below = found .0;
+      inside = found .1;
+      leads = λ q b h. let span = c .below-start .ensures q .0 (b, h) in c .loop-next .inv .3 d q (span .0) (omega (arith, span .1, c .loop-next-test .left));
+    }
