@@ -48,7 +48,7 @@ module _ {C : Type 0} (no-worse before : C → C → Bool) (laws : Compares C no
   ahead-same a b p q = (grind (arith, tells, laws .total (a .entry .cost) (b .entry .cost)), grind (arith, tells, asym))
 
   -- two that are both first are the same
-  pub first-same : (entries : ℕ → Option (Entry C)) (r s : Option (Held C)) → First before entries r → First before entries s → r ≡ s
+  first-same : (entries : ℕ → Option (Entry C)) (r s : Option (Held C)) → First before entries r → First before entries s → r ≡ s
   first-same entries None None p q = refl
   first-same entries None (Some b) p q = let h = p (b .point) in let k = q .there in grind arith
   first-same entries (Some a) None p q = let h = q (a .point) in let k = p .there in grind arith

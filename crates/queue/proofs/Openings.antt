@@ -15,13 +15,14 @@ use Rattle.gauge.specs.Laws.{Compares}
 use Rattle.queue.specs.declared.entries.Entry.{Entry}
 use Rattle.queue.specs.declared.entries.Held.{Held}
 use Rattle.queue.specs.declared.heaps.slots.Slot.{Slot}
-use Rattle.queue.specs.Map.{afterPut, without}
-use Rattle.queue.specs.Order.{First, Leads, ahead}
+use Rattle.queue.specs.Map.{afterPut, afterTake, without}
+use Rattle.queue.specs.Order.{Leads, ahead, look}
 use Rattle.queue.specs.InHeap.{Below, Heaped, heapEntries, heldAt, placeOf}
 use Rattle.queue.specs.Sifting.{Gap}
+use Rattle.queue.specs.Within.{heapWithin}
 use Rattle.queue.proofs.Finds.{entry-here, entry-somewhere, one-place}
 use Rattle.queue.proofs.Levels.{above-less, has-above}
-use Rattle.queue.proofs.Looks.{ahead-self, ahead-trans-not, first-same}
+use Rattle.queue.proofs.Looks.{ahead-self, ahead-trans-not, first-look}
 use Rattle.queue.proofs.Pigeons.{Apart, pigeonhole}
 
 put-own : {E : Type 0} (room : ℕ) (entries : ℕ → Option E) (point : ℕ) (e : E) → point < room → afterPut room entries point e point ≡ Some e
@@ -116,12 +117,12 @@ module _ {C : Type 0} (no-worse before : C → C → Bool) (laws : Compares C no
           (cases-eq i n)
 
   -- the entries but the first are those at the other places
-  pub rest-listed : 0 < n → (i : ℕ) → i < n → i ≢ 0 → without (heapEntries s n) (Some (heldAt d s 0)) (heldAt d s i .point) ≡ Some (heldAt d s i .entry)
+  rest-listed : 0 < n → (i : ℕ) → i < n → i ≢ 0 → without (heapEntries s n) (Some (heldAt d s 0)) (heldAt d s i .point) ≡ Some (heldAt d s i .entry)
   rest-listed h i hi ne =
       rw (ne-eqb (heldAt d s i .point) (heldAt d s 0 .point) (λ e. ne (one-place d s n (heap .fits) (heap .noted d) i 0 hi h e)))
       (entry-here d s n (heap .fits) (heap .noted d) i hi)
 
-  pub rest-all : (p : ℕ) (e : Entry C) → without (heapEntries s n) (Some (heldAt d s 0)) p ≡ Some e → (i : ℕ) × (i < n) × (i ≢ 0) × (heldAt d s i .point ≡ p)
+  rest-all : (p : ℕ) (e : Entry C) → without (heapEntries s n) (Some (heldAt d s 0)) p ≡ Some e → (i : ℕ) × (i < n) × (i ≢ 0) × (heldAt d s i .point ≡ p)
   rest-all p e is =
       ⊎-elim
       (λ (z : p ≡ heldAt d s 0 .point). absurd (none z))
@@ -134,9 +135,9 @@ module _ {C : Type 0} (no-worse before : C → C → Bool) (laws : Compares C no
       kept : p ≢ heldAt d s 0 .point → without (heapEntries s n) (Some (heldAt d s 0)) p ≡ heapEntries s n p
       kept ne = rw (ne-eqb p (heldAt d s 0 .point) ne)
 
-  -- whatever is first stands at the first place
-  pub first-root : 0 < n → (first : Option (Held C)) → First before (heapEntries s n) first → first ≡ Some (heldAt d s 0)
-  first-root h first is = first-same no-worse before laws (heapEntries s n) first (Some (heldAt d s 0)) is (root-first h)
+  -- what look answers stands at the first place
+  look-root : 0 < n → look before (heapEntries s n) (length s) ≡ Some (heldAt d s 0)
+  look-root h = sym (first-look no-worse before laws (heapEntries s n) (length s) (Some (heldAt d s 0)) (heapWithin before s n heap) (root-first h))
 
   -- the first entry gone, and the last in hand to fill its place
   gap-first : (m : ℕ) → n ≡ m + 1 → 0 < m → Gap before (without (heapEntries s n) (Some (heldAt d s 0))) d s m 0 (heldAt d s m)
@@ -155,22 +156,26 @@ module _ {C : Type 0} (no-worse before : C → C → Bool) (laws : Compares C no
         (w .0, omega arith, w .2, w .3);
   }
 
-  pub gap-taken : (m : ℕ) → n ≡ m + 1 → 0 < m → (first : Option (Held C)) → First before (heapEntries s n) first → (x : Held C) → x ≡ heldAt d s m → Gap before (without (heapEntries s n) first) d s m 0 x
-  gap-taken m is h first leads x same =
-      subst (λ t. Gap before (without (heapEntries s n) t) d s m 0 x) (sym (first-root (omega arith) first leads))
+  pub gap-taken : (m : ℕ) → n ≡ m + 1 → 0 < m → (x : Held C) → x ≡ heldAt d s m → Gap before (afterTake before (length s) (heapEntries s n)) d s m 0 x
+  gap-taken m is h x same =
+      subst (λ t. Gap before (without (heapEntries s n) t) d s m 0 x) (sym (look-root (omega arith)))
       (subst (Gap before (without (heapEntries s n) (Some (heldAt d s 0))) d s m 0) (sym same) (gap-first m is h))
 
   -- where the first entry was the last, none is left
-  pub none-left : n ≡ 1 → (first : Option (Held C)) → First before (heapEntries s n) first → (p : ℕ) → without (heapEntries s n) first p ≡ None
-  none-left one first is p = subst (λ t. without (heapEntries s n) t p ≡ None) (sym (first-root (omega arith) first is)) (go _ refl)
+  only-taken : n ≡ 1 → (p : ℕ) → afterTake before (length s) (heapEntries s n) p ≡ None
+  only-taken one p = subst (λ t. without (heapEntries s n) t p ≡ None) (sym (look-root (omega arith))) (go _ refl)
     where
       go : (o : Option (Entry C)) → without (heapEntries s n) (Some (heldAt d s 0)) p ≡ o → without (heapEntries s n) (Some (heldAt d s 0)) p ≡ None
       go None e = e
       go (Some y) e = let w = rest-all p y e in let l = w .1 in absurd (w .2 (omega arith))
 
--- a heap of at most one entry has none left without its first
-pub without-only : {C : Type 0} (no-worse before : C → C → Bool) → Compares C no-worse before → (s : List (Slot C)) (n : ℕ) → Heaped before s n → n ≤ 1 → (first : Option (Held C)) → First before (heapEntries s n) first → (p : ℕ) → without (heapEntries s n) first p ≡ None
-without-only no-worse before laws s zero heap few None is p = is p
-without-only no-worse before laws s zero heap few (Some x) is p = let z = is .there in grind arith
-without-only no-worse before laws [] (suc n) heap few first is p = absurd (omega (arith, heap .fits))
-without-only no-worse before laws (x ∷ s) (suc n) heap few first is p = none-left no-worse before laws x (x ∷ s) (suc n) heap (omega arith) first is p
+module _ {C : Type 0} (no-worse before : C → C → Bool) (laws : Compares C no-worse before) where
+  -- an empty heap has no first
+  pub look-none : (s : List (Slot C)) (n : ℕ) → n ≡ 0 → None ≡ look before (heapEntries s n) (length s)
+  look-none s n e = first-look no-worse before laws (heapEntries s n) (length s) None (λ p h. rw e) (λ p. rw e)
+
+  -- a take leaves nothing of at most one entry
+  pub none-left : (s : List (Slot C)) (n : ℕ) → Heaped before s n → n ≤ 1 → (p : ℕ) → afterTake before (length s) (heapEntries s n) p ≡ None
+  none-left s zero heap few p = rw (sym (look-none s 0 refl))
+  none-left [] (suc n) heap few p = absurd (omega (arith, heap .fits))
+  none-left (x ∷ s) (suc n) heap few p = only-taken no-worse before laws x (x ∷ s) (suc n) heap (omega arith) p

@@ -29,9 +29,9 @@ module _ {E : Type 0} (xs : List (Option E)) where
   row-past n (inl h) p l = grind (arith, tells)
   row-past n (inr h) p l = rowWithin xs p (omega arith)
 
--- the first entry's point has a number of 16 bits and a place
-pub row-first : {C : Type 0} {before : C → C → Bool} (xs : List (Option (Entry C))) (f : Held C) → Leads before (rowEntries xs) f → (f .point < 65536) × (f .point < length xs)
-row-first xs f h = let t = h .there in (grind (arith, tells), grind (arith, cases-lt (f .point) (length xs), rowWithin xs (f .point)))
+-- the first entry's point has a place
+pub row-first : {C : Type 0} {before : C → C → Bool} (xs : List (Option (Entry C))) (f : Held C) → Leads before (rowEntries xs) f → f .point < length xs
+row-first xs f h = let t = h .there in grind (arith, cases-lt (f .point) (length xs), rowWithin xs (f .point))
 
 -- one place more to look at
 pub look-more : {C : Type 0} (before : C → C → Bool) (xs : List (Option (Entry C))) (n point : ℕ) (place : Option (Entry C)) (first next : Option (Held C)) → n < 65536 → point ≡ n → place ≡ getD xs n None → first ≡ look before (rowEntries xs) n → next ≡ nearer before point place first → next ≡ look before (rowEntries xs) (n + 1)

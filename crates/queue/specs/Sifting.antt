@@ -61,5 +61,5 @@ LeadsBelow before d s count h (Some c) = FirstBelow before d s count h c
 
 -- where the entry of a point stands among the first `count` places; where their places are noted, none tells that it stands nowhere
 abbrev pub Standing : {C : Type 0} → Slot C → List (Slot C) → ℕ → ℕ → Option ℕ → Type 0
-Standing d s count point None = ((i : ℕ) → i < count → (heldAt d s i .point < length s) × (placeOf d s (heldAt d s i .point) ≡ i)) → (i : ℕ) → i < count → heldAt d s i .point ≢ point
+Standing d s count point None = count ≤ length s → ((i : ℕ) → i < count → (heldAt d s i .point < length s) × (placeOf d s (heldAt d s i .point) ≡ i)) → (i : ℕ) → i < count → heldAt d s i .point ≢ point
 Standing d s count point (Some at) = (at < count) × (heldAt d s at .point ≡ point)

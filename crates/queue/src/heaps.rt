@@ -6,7 +6,6 @@ pub mod slots;
 
 ghost use mathlib.Core.Path.{_≡_};
 ghost use denote.Ref.{now};
-ghost use Prim.Native.Nat.{_≤_};
 ghost use lib.ListN.{length};
 ghost use Rattle.queue.specs.InHeap.{Heaped, heapEntries};
 ghost use Rattle.queue.specs.Within.{heapWithin};
@@ -36,14 +35,6 @@ impl<'a, G: Gauge> Heap<'a, G> {
     {
         Heap { slots, used: 0 }
     }
-
-    // How many places hold entries. It never is more than there are; the least of both spares a proof of that.
-    fn count(&self) -> usize
-        ensures fits { λ r. ⌜ r ≤ length (now (now (self .entry) .slots)) ⌝ }
-        ensures used { λ r. ⌜ (now (self .entry) .used ≤ length (now (now (self .entry) .slots)) → r ≡ now (self .entry) .used) ⌝ }
-    {
-        self.used.min(self.slots.len())
-    }
 }
 
 pub impl<'a, G: Gauge> Queue<G> for Heap<'a, G> as HeapQueue {
@@ -71,23 +62,23 @@ pub impl<'a, G: Gauge> Queue<G> for Heap<'a, G> as HeapQueue {
             point,
             entry: *entry,
         };
-        let count = self.count();
-        self.used = set_entry::<G>(self.slots, count, &held);
+        let used = self.used;
+        self.used = set_entry::<G>(self.slots, used, &held);
         Ok(())
     }
 
     fn find(&self, point: u16) -> Option<Entry<G::Cost>> {
-        entry_of::<G>(self.slots, self.count(), point)
+        entry_of::<G>(self.slots, self.used, point)
     }
 
     fn look(&self) -> Option<Held<G::Cost>> {
-        first_of::<G>(self.slots, self.count())
+        first_of::<G>(self.slots, self.used)
     }
 
     fn take(&mut self) -> Option<Held<G::Cost>> {
         let first = self.look();
-        let count = self.count();
-        self.used = remove_first::<G>(self.slots, count);
+        let used = self.used;
+        self.used = remove_first::<G>(self.slots, used);
         first
     }
 }

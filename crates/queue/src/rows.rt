@@ -1,7 +1,11 @@
-// A queue with one place for each point, searched from end to end.
+// A queue with one place for each point, looked through from end to end.
 ghost use mathlib.Core.Path.{_≡_};
+ghost use mathlib.Core.Bool.{cond};
 ghost use denote.Ref.{now};
+ghost use Prim.Native.Nat.{ℕ, _<_};
+ghost use lib.Dec.{eqb};
 ghost use lib.ListN.{length};
+ghost use Rattle.std.specs.declared.option.Option.the-variants.{None};
 ghost use Rattle.queue.specs.InRow.{rowEntries};
 ghost use Rattle.queue.specs.Within.{rowWithin};
 ghost use Rattle.queue.specs.Order.{look, nearer};
@@ -40,17 +44,14 @@ pub impl<'a, G: Gauge> Queue<G> for Row<'a, G> as RowQueue {
     }
 
     fn clear(&mut self) {
-        for place in self.places.iter_mut() {
-            *place = None;
-        }
+        empty(self.places);
     }
 
     fn put(&mut self, point: u16, entry: &Entry<G::Cost>) -> Result<(), u16> {
-        let at = usize::from(point);
-        if at >= self.places.len() {
+        if point as usize >= self.places.len() {
             return Err(point);
         }
-        self.places[at] = Some(*entry);
+        set_place(self.places, point, Some(*entry));
         Ok(())
     }
 
@@ -64,10 +65,29 @@ pub impl<'a, G: Gauge> Queue<G> for Row<'a, G> as RowQueue {
 
     fn take(&mut self) -> Option<Held<G::Cost>> {
         let held = self.look()?;
-        let at = usize::from(held.point);
-        self.places[at] = None;
+        set_place(self.places, held.point, None);
         Some(held)
     }
+}
+
+// Empties every place.
+fn empty<C: Copy>(places: &mut [Option<Entry<C>>])
+    ensures room { λ _. ⌜ length (now (places .exit)) ≡ length (now (places .entry)) ⌝ }
+    ensures entries { λ _. ⌜ ((p : ℕ) → rowEntries (now (places .exit)) p ≡ None) ⌝ }
+{
+    for place in places.iter_mut() {
+        *place = None;
+    }
+}
+
+// Writes the place of a point.
+fn set_place<C: Copy>(places: &mut [Option<Entry<C>>], point: u16, entry: Option<Entry<C>>)
+    requires { ⌜ point < length (now places) ⌝ }
+    ensures room { λ _. ⌜ length (now (places .exit)) ≡ length (now (places .entry)) ⌝ }
+    ensures entries { λ _. ⌜ ((p : ℕ) → rowEntries (now (places .exit)) p ≡ cond (eqb p point) entry (rowEntries (now (places .entry)) p)) ⌝ }
+{
+    let at = point as usize;
+    places[at] = entry;
 }
 
 // The entry at the place of a point.

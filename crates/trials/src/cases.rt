@@ -1,5 +1,6 @@
 // What the trials share: runs as lines of numbers, rows of faults, and the bytes of plan files.
 use fault::Fault;
+use gauge::pair::PairCost;
 use std::alloc::AllocError;
 use std::alloc::Global;
 use std::test::*;
@@ -64,4 +65,13 @@ pub(crate) fn file(heap: Global, points: u16, kind: u16, lines: &[Line]) -> Resu
         }
     }
     Ok(bytes)
+}
+
+// A cable cost of three numbers.
+pub(crate) fn cable_cost([a, b, c]: [u32; 3]) -> PairCost<u32, PairCost<u32, u32>> {
+    let second = PairCost {
+        first: b,
+        second: c,
+    };
+    PairCost { first: a, second }
 }

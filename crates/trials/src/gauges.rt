@@ -1,6 +1,7 @@
 // Gauges: the cost after a run, and how two costs compare.
 use crate::cases::ONES;
 use crate::cases::WIDEST;
+use crate::cases::cable_cost;
 use gauge::Gauge;
 use gauge::house::Cable;
 use gauge::house::Drive;
@@ -114,14 +115,6 @@ const CABLE_ORDERS: [([u32; 3], [u32; 3], bool, bool); 10] = [
     ([1, 1, 3], [1, 1, 1], false, false),
     ([0, 0, 8], [1, 1, 1], false, true),
 ];
-
-fn cable_cost([a, b, c]: [u32; 3]) -> PairCost<u32, PairCost<u32, u32>> {
-    let second = PairCost {
-        first: b,
-        second: c,
-    };
-    PairCost { first: a, second }
-}
 
 fn cable_along(gauge: &Cable, cost: [u32; 3], [a, b, c]: [u32; 3]) -> Option<[u32; 3]> {
     let second = PairWeight {

@@ -6,8 +6,12 @@ mod files;
 #[cfg(test)]
 mod gauges;
 #[cfg(test)]
+mod layers;
+#[cfg(test)]
 mod limits;
 #[cfg(test)]
 mod listings;
 #[cfg(test)]
 mod plans;
+#[cfg(test)]
+mod queues;

@@ -1,4 +1,5 @@
-// What a heap's calls do to its memory. The first `count` slots hold its entries.
+// What a heap's calls do to its memory. The first `count` slots hold its entries. Memory that was never cleared holds anything, so no
+// count and no noted place is relied on before it is tested.
 ghost use mathlib.Core.Path.{_≡_};
 ghost use Prim.Native.Nat.{ℕ, _≤_, _<_};
 ghost use lib.ListN.{length};
@@ -7,8 +8,8 @@ ghost use Rattle.std.specs.declared.option.Option.the-variants.{Some};
 ghost use Rattle.queue.specs.declared.entries.Held.{Held};
 ghost use Rattle.queue.specs.declared.heaps.slots.Slot.{Slot};
 ghost use Rattle.queue.specs.InHeap.{Heaped, heapEntries};
-ghost use Rattle.queue.specs.Map.{afterPut, without};
-ghost use Rattle.queue.specs.Order.{First};
+ghost use Rattle.queue.specs.Map.{afterPut, afterTake};
+ghost use Rattle.queue.specs.Order.{First, look};
 ghost use Rattle.queue.specs.Sifting.{Standing};
 use crate::entries::Entry;
 use crate::entries::Held;
@@ -20,12 +21,11 @@ use gauge::Gauge;
 
 // Where the entry of a point stands.
 fn place_of<C: Copy>(slots: &[Slot<C>], count: usize, point: u16) -> Option<usize>
-    requires { ⌜ count ≤ length (now slots) ⌝ }
-    ensures inside { λ r. ⌜ ((at : ℕ) → r ≡ Some at → at < count) ⌝ }
+    ensures inside { λ r. ⌜ ((at : ℕ) → r ≡ Some at → (at < count) × (count ≤ length (now (slots .entry)))) ⌝ }
     ensures standing { λ r. ⌜ ((d : Slot C) → Standing d (now (slots .entry)) count point r) ⌝ }
 {
     let own = point as usize;
-    if own >= slots.len() {
+    if own >= slots.len() || count > slots.len() {
         return None;
     }
     let at = noted_at(slots, own);
@@ -42,7 +42,6 @@ pub(crate) fn entry_of<G: Gauge>(
     count: usize,
     point: u16,
 ) -> Option<Entry<G::Cost>>
-    requires { ⌜ count ≤ length (now slots) ⌝ }
     ensures { λ r. ⌜ (Heaped (G·Gauge .earlier) (now (slots .entry)) count → r ≡ heapEntries (now (slots .entry)) count point) ⌝ }
 {
     let at = place_of(slots, count, point)?;
@@ -51,14 +50,13 @@ pub(crate) fn entry_of<G: Gauge>(
 
 // The entry that goes first.
 pub(crate) fn first_of<G: Gauge>(slots: &[Slot<G::Cost>], count: usize) -> Option<Held<G::Cost>>
-    requires { ⌜ count ≤ length (now slots) ⌝ }
-    ensures { λ r. ⌜ (Heaped (G·Gauge .earlier) (now (slots .entry)) count → First (G·Gauge .earlier) (heapEntries (now (slots .entry)) count) r) ⌝ }
+    ensures answer { λ r. ⌜ (Heaped (G·Gauge .earlier) (now (slots .entry)) count → r ≡ look (G·Gauge .earlier) (heapEntries (now (slots .entry)) count) (length (now (slots .entry)))) ⌝ }
+    ensures first { λ r. ⌜ (Heaped (G·Gauge .earlier) (now (slots .entry)) count → First (G·Gauge .earlier) (heapEntries (now (slots .entry)) count) r) ⌝ }
 {
-    if count == 0 {
-        None
-    } else {
-        Some(held_at(slots, 0))
+    if count == 0 || count > slots.len() {
+        return None;
     }
+    Some(held_at(slots, 0))
 }
 
 // Sets the entry of a point that has a place. Answers how many entries there are then.
@@ -67,9 +65,10 @@ pub(crate) fn set_entry<G: Gauge>(
     count: usize,
     held: &Held<G::Cost>,
 ) -> usize
-    requires { ⌜ count ≤ length (now slots) ⌝ ∗ ⌜ now held .point < length (now slots) ⌝ }
+    requires { ⌜ now held .point < length (now slots) ⌝ }
     ensures room { λ _. ⌜ length (now (slots .exit)) ≡ length (now (slots .entry)) ⌝ }
-    ensures heap { λ r. ⌜ (Heaped (G·Gauge .earlier) (now (slots .entry)) count → Heaped (G·Gauge .earlier) (now (slots .exit)) r × ((p : ℕ) → heapEntries (now (slots .exit)) r p ≡ afterPut (length (now (slots .entry))) (heapEntries (now (slots .entry)) count) (now (held .entry) .point) (now (held .entry) .entry) p)) ⌝ }
+    ensures heaped { λ r. ⌜ (Heaped (G·Gauge .earlier) (now (slots .entry)) count → Heaped (G·Gauge .earlier) (now (slots .exit)) r) ⌝ }
+    ensures entries { λ r. ⌜ (Heaped (G·Gauge .earlier) (now (slots .entry)) count → (p : ℕ) → heapEntries (now (slots .exit)) r p ≡ afterPut (length (now (slots .entry))) (heapEntries (now (slots .entry)) count) (now (held .entry) .point) (now (held .entry) .entry) p) ⌝ }
 {
     if let Some(at) = place_of(slots, count, held.point) {
         settle::<G>(slots, count, at, held);
@@ -84,11 +83,11 @@ pub(crate) fn set_entry<G: Gauge>(
 
 // Removes the entry that goes first, if there is one. Answers how many are left.
 pub(crate) fn remove_first<G: Gauge>(slots: &mut [Slot<G::Cost>], count: usize) -> usize
-    requires { ⌜ count ≤ length (now slots) ⌝ }
     ensures room { λ _. ⌜ length (now (slots .exit)) ≡ length (now (slots .entry)) ⌝ }
-    ensures heap { λ r. ⌜ (Heaped (G·Gauge .earlier) (now (slots .entry)) count → Heaped (G·Gauge .earlier) (now (slots .exit)) r × ((first : Option (Held G·Cost)) → First (G·Gauge .earlier) (heapEntries (now (slots .entry)) count) first → (p : ℕ) → heapEntries (now (slots .exit)) r p ≡ without (heapEntries (now (slots .entry)) count) first p)) ⌝ }
+    ensures heaped { λ r. ⌜ (Heaped (G·Gauge .earlier) (now (slots .entry)) count → Heaped (G·Gauge .earlier) (now (slots .exit)) r) ⌝ }
+    ensures entries { λ r. ⌜ (Heaped (G·Gauge .earlier) (now (slots .entry)) count → (p : ℕ) → heapEntries (now (slots .exit)) r p ≡ afterTake (G·Gauge .earlier) (length (now (slots .entry))) (heapEntries (now (slots .entry)) count) p) ⌝ }
 {
-    if count <= 1 {
+    if count <= 1 || count > slots.len() {
         return 0;
     }
     let left = count - 1;

@@ -9,10 +9,10 @@ use Rattle.queue.proofs.heaps.edit.entry_of.Needs as need
 
 pub returns-in-Break-at : need.returns-in-Break-at
 returns-in-Break-at g c = λ heap.
-    c .from-residual .ensures ∙ sym (none-anywhere (c .args .slots .now) (c .args .count) (c .args .point) (heap .fits) (λ d. c .in-Break-at .ensures tt .standing d (heap .noted d)))
+    c .from-residual .ensures ∙ sym (none-anywhere (c .args .slots .now) (c .args .count) (c .args .point) (heap .fits) (λ d. c .in-Break-at .ensures tt .standing d (heap .fits) (heap .noted d)))
 
 pub held-at-requires : need.held-at-requires
-held-at-requires g c κs = omega (arith, c .place-of .ensures .inside (c .in-Continue-at .at) (c .in-Continue-at .was tt), c .pre)
+held-at-requires g c κs = let in-heap = c .place-of .ensures .inside (c .in-Continue-at .at) (c .in-Continue-at .was tt) in omega (arith, in-heap .0, in-heap .1)
 
 pub returns : need.returns
 returns g c = λ heap.

@@ -1,27 +1,28 @@
 use mathlib.Core.Path.{refl, sym}
 use native.Mathlib.Omega.{arith}
-use Rattle.std.specs.declared.option.Option.the-variants.{Some}
+use Prim.Native.Nat.{_≤_, _-_}
+use lib.ListN.{length}
 use Rattle.queue.specs.declared.heaps.slots.Slot.{Slot}
-use Rattle.queue.specs.InHeap.{heldAt}
-use Rattle.queue.proofs.Openings.{gap-taken, root-first, without-only}
+use Rattle.queue.specs.InHeap.{Heaped, heapEntries}
+use Rattle.queue.specs.Map.{afterTake}
+use Rattle.queue.specs.Sifting.{Gap}
+use Rattle.queue.proofs.Openings.{gap-taken, none-left}
 use Rattle.queue.proofs.heaps.edit.remove_first.Needs as need
 
 pub returns-then-count-le1 : need.returns-then-count-le1
 returns-then-count-le1 g c = record {
   room = refl;
-  heap = λ heap. (
-    record { fits = omega arith; noted = λ d i h. absurd (omega arith); ordered = λ d p q b h. absurd (omega arith) },
-    λ first is p. sym (without-only _ (g .G·Gauge .earlier) (g .G·Gauge·met .compares) (c .args .slots .now) (c .args .count) heap (omega arith) first is p),
-  );
+  heaped = λ heap. record { fits = omega arith; noted = λ d i h. absurd (omega arith); ordered = λ d p q b h. absurd (omega arith) };
+  entries = λ heap p. let few : c .args .count ≤ 1 = omega (arith, heap .fits, c .then-count-le1 .either) in
+      sym (none-left _ (g .G·Gauge .earlier) (g .G·Gauge·met .compares) (c .args .slots .now) (c .args .count) heap few p);
 }
 
 pub returns : need.returns
 returns g c = record {
   room = c .settle .ensures .room;
-  heap = λ heap.
-      let d : Slot _ = record { held = c .held-at-last .result; place = 0 } in
-      let root = root-first _ (g .G·Gauge .earlier) (g .G·Gauge·met .compares) d (c .args .slots .now) (c .args .count) heap (omega arith) in (
-        c .settle .ensures .heap _ (λ e. gap-taken _ (g .G·Gauge .earlier) (g .G·Gauge·met .compares) e (c .args .slots .now) (c .args .count) heap _ (omega arith) (omega arith) (Some (heldAt d (c .args .slots .now) 0)) root (c .held-at-last .result) (c .held-at-last .ensures e)) .0,
-        λ first leads. c .settle .ensures .heap _ (λ e. gap-taken _ (g .G·Gauge .earlier) (g .G·Gauge·met .compares) e (c .args .slots .now) (c .args .count) heap _ (omega arith) (omega arith) first leads (c .held-at-last .result) (c .held-at-last .ensures e)) .1,
-      );
+  heaped = λ heap. c .settle .ensures .heap _ (gaps heap) .0;
+  entries = λ heap. c .settle .ensures .heap _ (gaps heap) .1;
 }
+  where
+    gaps : Heaped (g .G·Gauge .earlier) (c .args .slots .now) (c .args .count) → (d : Slot _) → Gap (g .G·Gauge .earlier) (afterTake (g .G·Gauge .earlier) (length (c .args .slots .now)) (heapEntries (c .args .slots .now) (c .args .count))) d (c .args .slots .now) (c .args .count - 1) 0 (c .held-at-last .result)
+    gaps heap d = gap-taken _ (g .G·Gauge .earlier) (g .G·Gauge·met .compares) d (c .args .slots .now) (c .args .count) heap (c .args .count - 1) (omega arith) (omega arith) (c .held-at-last .result) (c .held-at-last .ensures d)

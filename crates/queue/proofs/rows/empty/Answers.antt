@@ -6,17 +6,16 @@ use lib.ListN.{length}
 use Rattle.std.proofs.shelf.Lists.{getD-set-same, getD-set-other}
 use Rattle.std.proofs.shelf.Tests.{cases-lt}
 use Rattle.queue.specs.Within.{rowWithin}
-use Rattle.queue.proofs.rows.RowQueue.clear.Needs as need
+use Rattle.queue.proofs.rows.empty.Needs as need
 
 pub loop-place-again : need.loop-place-again
 loop-place-again g c =
     below-more _ _
     (λ k h. let ne : k ≢ c .loop-place .place-index = omega arith in rw getD-set-other (c .loop-place .inv k h))
-    (let lt : c .loop-place .place-index < length (c .loop-place .place-items) = omega arith in rw getD-set-same)
+    (let lt : c .loop-place .place-index < length (c .loop-place .places) = omega arith in rw getD-set-same)
 
 pub returns : need.returns
 returns g c = record {
-  room = c .loop-place .kept .place-items;
-  cleared = tt;
-  entries = λ p. ⊎-elim (λ h. let e = c .loop-place .inv p (omega arith) in grind arith) (rowWithin (c .loop-place .place-items) p) (cases-lt p (length (c .loop-place .place-items)));
+  room = c .loop-place .kept .places;
+  entries = λ p. ⊎-elim (λ h. let e = c .loop-place .inv p (omega arith) in grind arith) (rowWithin (c .loop-place .places) p) (cases-lt p (length (c .loop-place .places)));
 }
