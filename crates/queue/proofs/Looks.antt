@@ -60,12 +60,12 @@ module _ {C : Type 0} (no-worse before : C → C → Bool) (laws : Compares C no
 
   module _ (entries : ℕ → Option (Entry C)) where
     -- the first of the entries of the points below n
-    abbrev FirstBelow : ℕ → Option (Held C) → Type 0
-    FirstBelow n None = (p : ℕ) → p < n → entries p ≡ None
-    FirstBelow n (Some f) = (f .point < n) × (entries (f .point) ≡ Some (f .entry)) ×
+    abbrev FirstSoFar : ℕ → Option (Held C) → Type 0
+    FirstSoFar n None = (p : ℕ) → p < n → entries p ≡ None
+    FirstSoFar n (Some f) = (f .point < n) × (entries (f .point) ≡ Some (f .entry)) ×
         ((p : ℕ) → p < n → (e : Entry C) → entries p ≡ Some e → ahead before (record { point = p; entry = e }) f ≡ false)
 
-    nearer-below : (n : ℕ) (o : Option (Entry C)) (r : Option (Held C)) → entries n ≡ o → FirstBelow n r → FirstBelow (suc n) (nearer before n o r)
+    nearer-below : (n : ℕ) (o : Option (Entry C)) (r : Option (Held C)) → entries n ≡ o → FirstSoFar n r → FirstSoFar (suc n) (nearer before n o r)
     nearer-below n None None s h = upto n _ h s
     nearer-below n None (Some f) s h = (omega (arith, h .0), h .1, upto n _ (h .2) (λ e t. grind arith))
     nearer-below n (Some o) None s h =
@@ -75,7 +75,7 @@ module _ {C : Type 0} (no-worse before : C → C → Bool) (laws : Compares C no
         new : Held C
         new = record { point = n; entry = o }
 
-        go : (t : Bool) → before (o .cost) (f .entry .cost) ≡ t → FirstBelow (suc n) (cond t (Some new) (Some f))
+        go : (t : Bool) → before (o .cost) (f .entry .cost) ≡ t → FirstSoFar (suc n) (cond t (Some new) (Some f))
         go true t = (
           omega arith,
           s,
@@ -85,7 +85,7 @@ module _ {C : Type 0} (no-worse before : C → C → Bool) (laws : Compares C no
         )
         go false t = (omega (arith, h .0), h .1, upto n _ (h .2) (λ e q. let g = h .0 in grind (arith, tells)))
 
-    look-below : (n : ℕ) → FirstBelow n (look before entries n)
+    look-below : (n : ℕ) → FirstSoFar n (look before entries n)
     look-below zero = λ p l. absurd (omega arith)
     look-below (suc n) = nearer-below n (entries n) (look before entries n) refl (look-below n)
 
@@ -93,7 +93,7 @@ module _ {C : Type 0} (no-worse before : C → C → Bool) (laws : Compares C no
     pub look-first : (n : ℕ) → ((p : ℕ) → n ≤ p → entries p ≡ None) → First before entries (look before entries n)
     look-first n past = go (look before entries n) (look-below n)
       where
-        go : (r : Option (Held C)) → FirstBelow n r → First before entries r
+        go : (r : Option (Held C)) → FirstSoFar n r → First before entries r
         go None h = λ p. ⊎-elim (h p) (past p) (cases-lt p n)
         go (Some f) h = record {
           there = h .1;
