@@ -1,7 +1,6 @@
 -- Which places of a heap stand above and below which. This is all that depends on how many stand below each.
 use mathlib.Core.Path.{_≡_}
-use mathlib.Core.Logic.{_≢_}
-use Prim.Native.Nat.{ℕ, zero, suc, _+_, _*_, _/_, _-_, _≤_, _<_}
+use Prim.Native.Nat.{ℕ, _/_, _-_, _<_}
 use native.Mathlib.Omega.{arith}
 use Rattle.queue.specs.InHeap.{Below}
 

@@ -2,10 +2,10 @@
 use mathlib.Core.Path.{_≡_, refl, sym, _∙_, ap, subst}
 use mathlib.Core.List.{List, [], _∷_}
 use mathlib.Core.Logic.{_≢_, ⊎-elim}
-use mathlib.Core.Bool.{Bool, true, false, cond}
+use mathlib.Core.Bool.{Bool, false, cond}
 use Prim.Native.Nat.{ℕ, zero, suc, _+_, _≤_, _<_}
 use native.Mathlib.Omega.{arith}
-use lib.Dec.{eqb, ltb}
+use lib.Dec.{eqb}
 use lib.ListN.{length}
 use Rattle.std.specs.declared.option.Option.{Option}
 use Rattle.std.specs.declared.option.Option.the-variants.{Some, None}
@@ -17,7 +17,7 @@ use Rattle.queue.specs.declared.entries.Held.{Held}
 use Rattle.queue.specs.declared.heaps.slots.Slot.{Slot}
 use Rattle.queue.specs.Map.{afterPut, afterTake, without}
 use Rattle.queue.specs.Order.{Leads, ahead, look}
-use Rattle.queue.specs.InHeap.{Below, Heaped, heapEntries, heldAt, placeOf}
+use Rattle.queue.specs.InHeap.{Heaped, heapEntries, heldAt}
 use Rattle.queue.specs.Sifting.{Gap}
 use Rattle.queue.specs.Within.{heapWithin}
 use Rattle.queue.proofs.Finds.{entry-here, entry-somewhere, one-place}

@@ -1,8 +1,8 @@
 -- What stands in a heap's memory after a write.
-use mathlib.Core.Path.{_≡_, refl, sym, _∙_, ap, subst}
+use mathlib.Core.Path.{_≡_, refl, _∙_, ap}
 use mathlib.Core.List.{List}
 use mathlib.Core.Logic.{_≢_, ⊎-elim}
-use mathlib.Core.Bool.{Bool, true, false, cond, _&&_}
+use mathlib.Core.Bool.{cond, _&&_}
 use Prim.Native.Nat.{ℕ, _≤_, _<_}
 use native.Mathlib.Omega.{arith}
 use lib.Dec.{eqb, ltb}
@@ -12,7 +12,7 @@ use Rattle.std.proofs.shelf.Tests.{cases-eq, eq-eqb, ne-eqb}
 use Rattle.std.proofs.shelf.Ways.{tells}
 use Rattle.queue.specs.declared.entries.Held.{Held}
 use Rattle.queue.specs.declared.heaps.slots.Slot.{Slot}
-use Rattle.queue.specs.InHeap.{heldAt, placeOf}
+use Rattle.queue.specs.InHeap.{placeOf}
 use Rattle.queue.specs.Sifting.{Noted, Stood}
 
 module _ {X Y : Type 0} (f : X → Y) (d : X) (xs : List X) (at : ℕ) (v : X) (inside : at < length xs) where

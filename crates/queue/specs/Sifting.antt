@@ -12,7 +12,7 @@ use Rattle.queue.specs.declared.entries.Entry.{Entry}
 use Rattle.queue.specs.declared.entries.Held.{Held}
 use Rattle.queue.specs.declared.heaps.slots.Slot.{Slot}
 use Rattle.queue.specs.Order.{ahead}
-use Rattle.queue.specs.InHeap.{Below, heldAt, placeOf}
+use Rattle.queue.specs.InHeap.{Below, Heaped, heapEntries, heldAt, placeOf}
 
 -- the place of a point's entry has been noted, if the point has a place of its own
 pub record Noted {C : Type 0} (d : Slot C) (old : List (Slot C)) (point at : ℕ) (new : List (Slot C)) : Type 0 where
@@ -48,6 +48,24 @@ UnderAbove before d s h x = (p : ℕ) → Below p h → ahead before x (heldAt d
 -- no entry below the gap goes before the one in hand
 abbrev pub OverBelow : {C : Type 0} → (C → C → Bool) → Slot C → List (Slot C) → ℕ → ℕ → Held C → Type 0
 OverBelow before d s count h x = (c : ℕ) → Below h c → c < count → ahead before (heldAt d s c) x ≡ false
+
+-- the gap has gone up from h to k, to where x does not go before the entry above
+abbrev pub Raised : {C : Type 0} → (C → C → Bool) → List (Slot C) → ℕ → Held C → List (Slot C) → ℕ → Type 0
+Raised {C} before old h x new k =
+    (d : Slot C) (entries : ℕ → Option (Entry C)) (count : ℕ) → Gap before entries d old count h x →
+    Gap before entries d new count k x × UnderAbove before d new k x
+
+-- it has gone down from h to k, to where no entry below goes before x
+abbrev pub Lowered : {C : Type 0} → (C → C → Bool) → ℕ → List (Slot C) → ℕ → Held C → List (Slot C) → ℕ → Type 0
+Lowered {C} before count old h x new k =
+    (d : Slot C) (entries : ℕ → Option (Entry C)) → Gap before entries d old count h x → UnderAbove before d old h x →
+    Gap before entries d new count k x × UnderAbove before d new k x × OverBelow before d new count k x
+
+-- x stands at its place, and what was a heap with a gap is one with those entries
+abbrev pub Settled : {C : Type 0} → (C → C → Bool) → ℕ → List (Slot C) → ℕ → Held C → List (Slot C) → Type 0
+Settled {C} before count old h x new =
+    (entries : ℕ → Option (Entry C)) → ((d : Slot C) → Gap before entries d old count h x) →
+    Heaped before new count × ((p : ℕ) → heapEntries new count p ≡ entries p)
 
 -- of the places right below h, the one whose entry goes first, if there is any
 pub record FirstBelow {C : Type 0} (before : C → C → Bool) (d : Slot C) (s : List (Slot C)) (count h c : ℕ) : Type 0 where

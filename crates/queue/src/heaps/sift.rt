@@ -1,14 +1,10 @@
 // Sifting: how an entry finds its place in a heap. The entry stays in hand, and others move into the gap that it leaves.
 ghost use mathlib.Core.Path.{_≡_};
-ghost use mathlib.Core.Bool.{Bool};
-ghost use Prim.Native.Nat.{ℕ, _≤_, _<_};
+ghost use Prim.Native.Nat.{_≤_, _<_};
 ghost use lib.ListN.{length};
-ghost use Rattle.std.specs.declared.option.Option.{Option};
-ghost use Rattle.queue.specs.declared.entries.Entry.{Entry};
 ghost use Rattle.queue.specs.declared.heaps.slots.Slot.{Slot};
-ghost use Rattle.queue.specs.InHeap.{Heaped, heapEntries, heldAt};
 ghost use Rattle.queue.specs.Order.{ahead};
-ghost use Rattle.queue.specs.Sifting.{FirstBelow, Gap, LeadsBelow, OverBelow, UnderAbove};
+ghost use Rattle.queue.specs.Sifting.{LeadsBelow, Lowered, Raised, Settled};
 use crate::entries::Held;
 use crate::entries::comes_before;
 use crate::heaps::levels::above;
@@ -34,7 +30,7 @@ fn climb<G: Gauge>(slots: &mut [Slot<G::Cost>], gap: usize, held: &Held<G::Cost>
     requires { ⌜ gap < length (now slots) ⌝ }
     ensures room { λ _. ⌜ length (now (slots .exit)) ≡ length (now (slots .entry)) ⌝ }
     ensures up { λ r. ⌜ r ≤ gap ⌝ }
-    ensures gap { λ r. ⌜ ((d : Slot G·Cost) (entries : ℕ → Option (Entry G·Cost)) (count : ℕ) → Gap (G·Gauge .earlier) entries d (now (slots .entry)) count gap (now (held .entry)) → Gap (G·Gauge .earlier) entries d (now (slots .exit)) count r (now (held .entry)) × UnderAbove (G·Gauge .earlier) d (now (slots .exit)) r (now (held .entry))) ⌝ }
+    ensures gap { λ r. ⌜ Raised (G·Gauge .earlier) (now (slots .entry)) gap (now (held .entry)) (now (slots .exit)) r ⌝ }
 {
     let mut at = gap;
     while at > 0 {
@@ -79,7 +75,7 @@ fn sink<G: Gauge>(
     requires { ⌜ gap < count ⌝ ∗ ⌜ count ≤ length (now slots) ⌝ }
     ensures room { λ _. ⌜ length (now (slots .exit)) ≡ length (now (slots .entry)) ⌝ }
     ensures inside { λ r. ⌜ r < count ⌝ }
-    ensures gap { λ r. ⌜ ((d : Slot G·Cost) (entries : ℕ → Option (Entry G·Cost)) → Gap (G·Gauge .earlier) entries d (now (slots .entry)) count gap (now (held .entry)) → UnderAbove (G·Gauge .earlier) d (now (slots .entry)) gap (now (held .entry)) → Gap (G·Gauge .earlier) entries d (now (slots .exit)) count r (now (held .entry)) × UnderAbove (G·Gauge .earlier) d (now (slots .exit)) r (now (held .entry)) × OverBelow (G·Gauge .earlier) d (now (slots .exit)) count r (now (held .entry))) ⌝ }
+    ensures gap { λ r. ⌜ Lowered (G·Gauge .earlier) count (now (slots .entry)) gap (now (held .entry)) (now (slots .exit)) r ⌝ }
 {
     let mut at = gap;
     while let Some(next) = first_below::<G>(slots, count, at) {
@@ -102,7 +98,7 @@ pub(crate) fn settle<G: Gauge>(
 )
     requires { ⌜ gap < count ⌝ ∗ ⌜ count ≤ length (now slots) ⌝ }
     ensures room { λ _. ⌜ length (now (slots .exit)) ≡ length (now (slots .entry)) ⌝ }
-    ensures heap { λ _. ⌜ ((entries : ℕ → Option (Entry G·Cost)) → ((d : Slot G·Cost) → Gap (G·Gauge .earlier) entries d (now (slots .entry)) count gap (now (held .entry))) → Heaped (G·Gauge .earlier) (now (slots .exit)) count × ((p : ℕ) → heapEntries (now (slots .exit)) count p ≡ entries p)) ⌝ }
+    ensures heap { λ _. ⌜ Settled (G·Gauge .earlier) count (now (slots .entry)) gap (now (held .entry)) (now (slots .exit)) ⌝ }
 {
     let up = climb::<G>(slots, gap, held);
     let at = sink::<G>(slots, count, up, held);

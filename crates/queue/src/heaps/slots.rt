@@ -1,6 +1,6 @@
 // The memory of a heap.
 ghost use mathlib.Core.Path.{_≡_};
-ghost use Prim.Native.Nat.{_≤_, _<_};
+ghost use Prim.Native.Nat.{_<_};
 ghost use lib.ListN.{length};
 ghost use Rattle.queue.specs.declared.heaps.slots.Slot.{Slot};
 ghost use Rattle.queue.specs.InHeap.{heldAt, placeOf};

@@ -1,4 +1,4 @@
-use mathlib.Core.Path.{_≡_, refl, sym, _∙_, ap, subst}
+use mathlib.Core.Path.{refl, ap}
 use native.Mathlib.Omega.{arith}
 use Rattle.queue.specs.declared.heaps.slots.Slot.{Slot}
 use Prim.Native.Nat.{_+_}

@@ -1,8 +1,5 @@
-use mathlib.Core.Path.{_≡_, sym, _∙_, ap, subst}
-use Prim.Native.Nat.{_<_}
+use mathlib.Core.Path.{sym, _∙_, ap, subst}
 use native.Mathlib.Omega.{arith}
-use lib.ListN.{length}
-use Rattle.queue.specs.InHeap.{heldAt}
 use Rattle.queue.specs.Order.{ahead}
 use Rattle.queue.specs.Sifting.{Stood}
 use Rattle.queue.proofs.Gaps.{gap-up}

@@ -1,7 +1,5 @@
-use mathlib.Core.Path.{_≡_, sym, _∙_, subst}
-use mathlib.Core.Bool.{true, false}
+use mathlib.Core.Path.{_≡_, sym, _∙_}
 use native.Mathlib.Omega.{arith}
-use Prim.Native.Nat.{ℕ, _+_, _≤_, _<_}
 use Rattle.queue.specs.declared.heaps.slots.Slot.{Slot}
 use Rattle.queue.specs.InHeap.{heldAt}
 use Rattle.queue.specs.Order.{ahead}

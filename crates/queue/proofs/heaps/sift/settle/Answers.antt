@@ -1,4 +1,4 @@
-use mathlib.Core.Path.{_≡_, _∙_}
+use mathlib.Core.Path.{_∙_}
 use native.Mathlib.Omega.{arith}
 use Rattle.queue.specs.declared.heaps.slots.Slot.{Slot}
 use Rattle.queue.proofs.Gaps.{filled-all, filled-listed, filled-noted, filled-ordered}

@@ -1,6 +1,5 @@
-use mathlib.Core.Path.{_≡_, sym, _∙_, subst}
+use mathlib.Core.Path.{sym, _∙_, subst}
 use native.Mathlib.Omega.{arith}
-use Rattle.queue.specs.declared.heaps.slots.Slot.{Slot}
 use Rattle.queue.specs.InHeap.{heldAt}
 use Rattle.queue.specs.Sifting.{Stood}
 use Rattle.queue.proofs.Gaps.{gap-down, under-moved}
