@@ -325,3 +325,22 @@ fn heap_and_row_answer_as_written_by_hand() -> Result<(), Fail> {
     by_hand::<HeapQueue>(&mut heap).note("heap")?;
     by_hand::<RowQueue>(&mut row).note("row")
 }
+
+// More places than there are points: the last ones are those of no point.
+#[test]
+fn a_row_leaves_places_past_the_last_point_alone() -> Result<(), Fail> {
+    let entry = Entry {
+        cost: 0u32,
+        from: None,
+        run: None,
+    };
+    let mut places = [Some(entry); 65540];
+    let mut row: Row<Sum> = Row::new(&mut places);
+    row.clear();
+    check_eq(row.capacity(), 65540)?;
+    check_eq(put::<RowQueue>(&mut row, 65535, 4), Ok(()))?;
+    check_eq(put::<RowQueue>(&mut row, 5, 4), Ok(()))?;
+    check_eq(seen(row.take()), Some((5, 4)))?;
+    check_eq(seen(row.take()), Some((65535, 4)))?;
+    check_eq(seen(row.take()), None)
+}
