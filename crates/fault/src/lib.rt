@@ -1,4 +1,6 @@
 // Faults: what a refused call answers. One enum for each layer, one variant for each reason, holding its place.
+#![tactic(auto)]
+
 mod file;
 mod limit;
 mod plan;

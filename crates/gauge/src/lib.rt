@@ -1,4 +1,6 @@
 // Gauges: how the cost of a route starts, grows along a run, and compares with another.
+#![tactic(auto)]
+
 pub mod house;
 pub mod pair;
 pub mod set;

@@ -1,4 +1,6 @@
 // A plan file as text, point by point, or the refusal that it meets.
+#![tactic(auto)]
+
 mod cause;
 mod lines;
 mod report;

@@ -1,4 +1,6 @@
 // The label-setting method: which entry waits at each point, and which label is listed next.
+#![tactic(auto)]
+
 mod along;
 mod covers;
 mod label;

@@ -1,4 +1,6 @@
 // Plans of ducts and drives: points, and runs that lead from one to another.
+#![tactic(auto)]
+
 mod plans;
 mod runs;
 

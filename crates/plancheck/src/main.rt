@@ -1,4 +1,6 @@
 // Prints the plan in plan.bay point by point, or the refusal that it meets.
+#![tactic(auto)]
+
 use listing::list_plan;
 use std::io::ErrorKind;
 use std::{fs, io};

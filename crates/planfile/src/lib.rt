@@ -1,4 +1,6 @@
 // Plan files: the bytes of a plan, read into a lent run table.
+#![tactic(auto)]
+
 mod kinds;
 mod numbers;
 mod reader;

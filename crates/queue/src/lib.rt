@@ -1,4 +1,6 @@
 // Queues: for each point at most one entry, and the entry that goes first.
+#![tactic(auto)]
+
 mod entries;
 mod heaps;
 mod rows;

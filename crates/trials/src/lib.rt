@@ -1,4 +1,6 @@
 // Trials: the crates below, tried case by case.
+#![tactic(auto)]
+
 #[cfg(test)]
 mod cases;
 #[cfg(test)]
