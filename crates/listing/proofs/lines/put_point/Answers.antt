@@ -6,8 +6,8 @@ use Rattle.plan.proofs.Tails.{leaving_length, first_within}
 use Rattle.listing.proofs.Steps.{point_whole}
 use Rattle.listing.proofs.lines.put_point.Goals as goal
 
-pub put-runs-requires : goal.put-runs-requires
-put-runs-requires g c =
+pub put_runs-requires : goal.put_runs-requires
+put_runs-requires g c =
     let part : c.in-Ok.leaving.now ≡ leaving_part c.args.point c.args.plan.now.runs.now = let answer = c.in-Ok.ensures.answer in grind (arith, nat_tests) in
     let end = leaving_length c.args.point c.args.plan.now.runs.now in
     let in_table = first_within (c.args.point + 1) c.args.plan.now.runs.now in
@@ -17,6 +17,6 @@ put-runs-requires g c =
 pub returns : goal.returns
 returns g c =
     let part : c.in-Ok.leaving.now ≡ leaving_part c.args.point c.args.plan.now.runs.now = let answer = c.in-Ok.ensures.answer in grind (arith, nat_tests) in
-    IfOk-weaker c.put-runs.result _ _
-    (λ x e. point_whole g.K.Kind.numbers (string_bytes c.args.out.now) c.args.plan.now.runs.now c.in-Ok.leaving.now c.args.point c.first-from.result part c.first-from.ensures c.in-ok-write.ensures.bytes e)
-    c.put-runs.ensures
+    IfOk-weaker c.put_runs.result _ _
+    (λ x e. point_whole g.K.Kind.numbers (string_bytes c.args.out.now) c.args.plan.now.runs.now c.in-Ok.leaving.now c.args.point c.first_from.result part c.first_from.ensures c.in_ok-write.ensures.bytes e)
+    c.put_runs.ensures

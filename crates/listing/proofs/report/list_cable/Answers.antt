@@ -3,4 +3,4 @@ use Rattle.listing.proofs.report.list_cable.Goals as goal
 
 pub returns : goal.returns
 unfolding cable_answer
-returns c = c.list-in.ensures
+returns c = c.list_in.ensures

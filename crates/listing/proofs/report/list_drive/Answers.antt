@@ -3,4 +3,4 @@ use Rattle.listing.proofs.report.list_drive.Goals as goal
 
 pub returns : goal.returns
 unfolding drive_answer
-returns c = c.list-in.ensures
+returns c = c.list_in.ensures

@@ -7,24 +7,24 @@ use Rattle.listing.specs.Report.{runs_listed}
 use Rattle.listing.proofs.Tellings.{table_listed}
 use Rattle.listing.proofs.report.list_in.Goals as goal
 
-pub returns-in-err-header : goal.returns-in-err-header
-returns-in-err-header g c =
-    let p = err_from_is_err_and c.from-residual.result c.from-residual.ensures.1 in
-    let runs = refused_runs g.K.Kind.weighed c.args.bytes.now g.K.Kind.number (length c.args.table.now) c.in-err-header.field-0.0 (sym c.in-err-header.ensures.answer) in
+pub returns-in_err-header : goal.returns-in_err-header
+returns-in_err-header g c =
+    let p = err_from_is_err_and c.from_residual.result c.from_residual.ensures.1 in
+    let runs = refused_runs g.K.Kind.weighed c.args.bytes.now g.K.Kind.number (length c.args.table.now) c.in_err-header.field-0.0 (sym c.in_err-header.ensures.answer) in
     rw (p.1, p.2) (ap (runs_listed g.K.Kind.numbers c.args.word.now (points_in c.args.bytes.now)) runs)
 
-pub list-runs-requires : goal.list-runs-requires
-list-runs-requires g c =
-    let read = accepted_runs g.K.Kind.weighed c.args.bytes.now g.K.Kind.number (length c.args.table.now) c.in-ok-header.header (sym c.in-ok-header.ensures.answer) in
+pub list_runs-requires : goal.list_runs-requires
+list_runs-requires g c =
+    let read = accepted_runs g.K.Kind.weighed c.args.bytes.now g.K.Kind.number (length c.args.table.now) c.in_ok-header.header (sym c.in_ok-header.ensures.answer) in
     omega (arith, read.4)
 
 pub returns : goal.returns
 returns g c =
-    let read = accepted_runs g.K.Kind.weighed c.args.bytes.now g.K.Kind.number (length c.args.table.now) c.in-ok-header.header (sym c.in-ok-header.ensures.answer) in
+    let read = accepted_runs g.K.Kind.weighed c.args.bytes.now g.K.Kind.number (length c.args.table.now) c.in_ok-header.header (sym c.in_ok-header.ensures.answer) in
     let part = table_runs g.K.Kind.weighed c.args.bytes.now g.K.Kind.number c.args.table.now read.0 read.1 in
-    let here : take c.in-ok-header.header.runs c.read.new.table ≡ read.0 =
-    ap (take c.in-ok-header.header.runs) c.in-ok-header.ensures.after
+    let here : take c.in_ok-header.header.runs c.read.new.table ≡ read.0 =
+    ap (take c.in_ok-header.header.runs) c.in_ok-header.ensures.after
     ∙ ap (λ n. take n (file_table g.K.Kind.number g.K.Kind.weighed c.args.bytes.now c.args.table.now)) (sym read.2) ∙ part in
-    subst (λ a. Answers c.list-runs.result a)
-    (table_listed g.K.Kind.number g.K.Kind.weighed g.K.Kind.numbers c.args.word.now c.args.bytes.now (length c.args.table.now) c.in-ok-header.header.points (take c.in-ok-header.header.runs c.read.new.table) read.0 read.1 here read.3)
-    c.list-runs.ensures
+    subst (λ a. Answers c.list_runs.result a)
+    (table_listed g.K.Kind.number g.K.Kind.weighed g.K.Kind.numbers c.args.word.now c.args.bytes.now (length c.args.table.now) c.in_ok-header.header.points (take c.in_ok-header.header.runs c.read.new.table) read.0 read.1 here read.3)
+    c.list_runs.ensures

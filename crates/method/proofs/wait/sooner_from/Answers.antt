@@ -1,5 +1,5 @@
 use Rattle.std.proofs.Common.{arith}
 use Rattle.method.proofs.wait.sooner_from.Goals as goal
 
-pub returns-else-is-open : goal.returns-else-is-open
-returns-else-is-open g c = let shut = c.if-is-open.ensures.result in let some = c.in-Some.ensures in grind arith
+pub returns-else-is_open : goal.returns-else-is_open
+returns-else-is_open g c = let shut = c.if-is_open.ensures.result in let some = c.in-Some.ensures in grind arith

@@ -9,11 +9,11 @@ use Rattle.method.proofs.wait.soonest_at.Goals as goal
 use Rattle.method.proofs.wait.soonest_at.Goals.{then-run-point, else-run-point}
 
 pub loop-number-init : goal.loop-number-init
-loop-number-init g c = rw c.open-start-best.ensures
+loop-number-init g c = rw c.open_start-best.ensures
 
 -- what the best so far becomes at a run
 turned : (g : given.Over) (c : goal.Joined-run-point g) → c.if-run-point.best ≡ sooner_of g.G.Gauge.earlier c.loop-number.best (cond (eqb c.run-item.result.head c.args.point) (from_labels (rules g.G.Gauge c.args.gauge.now) c.args.labels.now c.loop-number.number c.run-item.result 0 c.args.labels.now) None)
-turned g c = elim c.if-run-point.branch [ then-run-point w ↦ let made = w.sooner-along-best.ensures in let same = eq-eqb c.run-item.result.head c.args.point w.if-run-point.true in w.best-is ∙ made ∙ rw same | else-run-point w ↦ w.best-is ∙ sym (rw (ne_eqb c.run-item.result.head c.args.point w.if-run-point.false) (sooner_of_none g.G.Gauge.earlier c.loop-number.best)) ]
+turned g c = elim c.if-run-point.branch [ then-run-point w ↦ let made = w.sooner_along-best.ensures in let same = eq-eqb c.run-item.result.head c.args.point w.if-run-point.true in w.best-is ∙ made ∙ rw same | else-run-point w ↦ w.best-is ∙ sym (rw (ne_eqb c.run-item.result.head c.args.point w.if-run-point.false) (sooner_of_none g.G.Gauge.earlier c.loop-number.best)) ]
 
 pub loop-number-preserved : goal.loop-number-preserved
 loop-number-preserved g c =

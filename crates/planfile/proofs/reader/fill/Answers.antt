@@ -11,7 +11,7 @@ pub returns : goal.returns
 returns g c =
     sym (c.loop-k.invariant.1 ∙ fill_all g.K.Kind.weighed c.args.bytes.now c.args.runs c.loop-k.k c.loop-k.table c.loop-k-test.false)
 
-pub returns-in-default : goal.returns-in-default
-returns-in-default g c =
+pub returns-in_default : goal.returns-in_default
+returns-in_default g c =
     let good = fill_good g.K.Kind.weighed c.args.bytes.now c.args.runs c.loop-k.k c.loop-k-test.true c.loop-k.invariant.0 in
-    absurd (c.in-default.not-Ok good.0 (c.run-at.ensures ∙ good.1))
+    absurd (c.in_default.not-Ok good.0 (c.run_at.ensures ∙ good.1))

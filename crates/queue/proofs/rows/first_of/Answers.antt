@@ -15,9 +15,9 @@ loop-at-preserved g c =
     c.loop-at.invariant c.sooner-first.ensures
 
 -- past the numbers of 16 bits no point has an entry
-pub returns-in-default : goal.returns-in-default
-returns-in-default g c =
+pub returns-in_default : goal.returns-in_default
+returns-in_default g c =
     let places = c.args.places.now in
     c.loop-at.invariant ∙
     first_look _ g.G.Gauge.earlier g.met.G.Gauge.compares (row_entries places) (length places) (look g.G.Gauge.earlier (row_entries places) c.loop-at.at) (row_within places)
-    (look_first _ g.G.Gauge.earlier g.met.G.Gauge.compares (row_entries places) c.loop-at.at (row_past places c.loop-at.at (inl (omega (arith, c.in-default.ensures)))))
+    (look_first _ g.G.Gauge.earlier g.met.G.Gauge.compares (row_entries places) c.loop-at.at (row_past places c.loop-at.at (inl (omega (arith, c.in_default.ensures)))))

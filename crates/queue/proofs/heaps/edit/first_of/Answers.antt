@@ -16,11 +16,11 @@ returns-then-count-eq0 g c = record {
 
 pub returns : goal.returns
 returns g c = record {
-  answer = λ heap. first_look _ g.G.Gauge.earlier g.met.G.Gauge.compares (heap_entries c.args.slots.now c.args.count) (length c.args.slots.now) (Some c.held-at.result)
+  answer = λ heap. first_look _ g.G.Gauge.earlier g.met.G.Gauge.compares (heap_entries c.args.slots.now c.args.count) (length c.args.slots.now) (Some c.held_at.result)
       (heap_within g.G.Gauge.earlier c.args.slots.now c.args.count heap) (leads heap);
   first = leads;
 }
   where
-    leads : Heaped g.G.Gauge.earlier c.args.slots.now c.args.count → Leads g.G.Gauge.earlier (heap_entries c.args.slots.now c.args.count) c.held-at.result
-    leads heap = let d : Slot _ = record { held = c.held-at.result; place = 0 } in
-        subst (Leads g.G.Gauge.earlier _) (sym (c.held-at.ensures d)) (root_first _ g.G.Gauge.earlier g.met.G.Gauge.compares d c.args.slots.now c.args.count heap (omega arith))
+    leads : Heaped g.G.Gauge.earlier c.args.slots.now c.args.count → Leads g.G.Gauge.earlier (heap_entries c.args.slots.now c.args.count) c.held_at.result
+    leads heap = let d : Slot _ = record { held = c.held_at.result; place = 0 } in
+        subst (Leads g.G.Gauge.earlier _) (sym (c.held_at.ensures d)) (root_first _ g.G.Gauge.earlier g.met.G.Gauge.compares d c.args.slots.now c.args.count heap (omega arith))

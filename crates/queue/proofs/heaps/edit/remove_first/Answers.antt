@@ -21,5 +21,5 @@ returns g c = record {
   entries = λ heap. (c.settle.ensures.heap _ (gaps heap)).1;
 }
   where
-    gaps : Heaped g.G.Gauge.earlier c.args.slots.now c.args.count → (d : Slot _) → Gap g.G.Gauge.earlier (after_take g.G.Gauge.earlier (length c.args.slots.now) (heap_entries c.args.slots.now c.args.count)) d c.args.slots.now (c.args.count - 1) 0 c.held-at-last.result
-    gaps heap d = gap_taken _ g.G.Gauge.earlier g.met.G.Gauge.compares d c.args.slots.now c.args.count heap (c.args.count - 1) (omega arith) (omega arith) c.held-at-last.result (c.held-at-last.ensures d)
+    gaps : Heaped g.G.Gauge.earlier c.args.slots.now c.args.count → (d : Slot _) → Gap g.G.Gauge.earlier (after_take g.G.Gauge.earlier (length c.args.slots.now) (heap_entries c.args.slots.now c.args.count)) d c.args.slots.now (c.args.count - 1) 0 c.held_at-last.result
+    gaps heap d = gap_taken _ g.G.Gauge.earlier g.met.G.Gauge.compares d c.args.slots.now c.args.count heap (c.args.count - 1) (omega arith) (omega arith) c.held_at-last.result (c.held_at-last.ensures d)

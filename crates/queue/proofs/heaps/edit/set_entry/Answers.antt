@@ -29,7 +29,7 @@ returns-then-count-slots g c = record {
   where
     full : Heaped g.G.Gauge.earlier c.args.slots.now c.args.count → ⊥
     full heap = let d : Slot _ = record { held = c.args.held.now; place = 0 } in
-        omega (arith, c.if-count-slots.true, room_left _ g.G.Gauge.earlier g.met.G.Gauge.compares d c.args.slots.now c.args.count heap c.args.held.now.point c.requires (c.in-default.ensures.standing d heap.fits (heap.noted d)))
+        omega (arith, c.if-count-slots.true, room_left _ g.G.Gauge.earlier g.met.G.Gauge.compares d c.args.slots.now c.args.count heap c.args.held.now.point c.requires (c.in_default.ensures.standing d heap.fits (heap.noted d)))
 
 pub returns : goal.returns
 returns g c = record {
@@ -39,4 +39,4 @@ returns g c = record {
 }
   where
     gaps : (heap : Heaped g.G.Gauge.earlier c.args.slots.now c.args.count) (d : Slot _) → Gap g.G.Gauge.earlier (after_put (length c.args.slots.now) (heap_entries c.args.slots.now c.args.count) c.args.held.now.point c.args.held.now.entry) d c.args.slots.now (c.args.count + 1) c.args.count c.args.held.now
-    gaps heap d = gap_new _ g.G.Gauge.earlier g.met.G.Gauge.compares d c.args.slots.now c.args.count heap c.args.held.now (omega arith) c.requires (c.in-default.ensures.standing d heap.fits (heap.noted d))
+    gaps heap d = gap_new _ g.G.Gauge.earlier g.met.G.Gauge.compares d c.args.slots.now c.args.count heap c.args.held.now (omega arith) c.requires (c.in_default.ensures.standing d heap.fits (heap.noted d))

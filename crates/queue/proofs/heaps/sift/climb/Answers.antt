@@ -18,7 +18,7 @@ loop-at-preserved g c =
           let here = c.loop-at.invariant.3 d entries count gap in
           gap_up g.G.Gauge.earlier entries d c.loop-at.slots count c.loop-at.at c.above-up.result c.args.held.now here
           (omega (arith, less, here.inside)) (omega (arith, less)) c.stand.new.slots
-          (subst (λ t. Stood d c.loop-at.slots c.loop-at.at t c.stand.new.slots) (c.held-at-over.ensures d) (c.stand.ensures d))
+          (subst (λ t. Stood d c.loop-at.slots c.loop-at.at t c.stand.new.slots) (c.held_at-over.ensures d) (c.stand.ensures d))
           (ahead_trans_not _ g.G.Gauge.earlier g.met.G.Gauge.compares) up,
     )
 
@@ -29,14 +29,14 @@ returns-after-loop-at g c = record {
   gap = λ d entries count gap. (c.loop-at.invariant.3 d entries count gap, λ p b. absurd (omega (arith, above_less p _ b)));
 }
 
-pub returns-then-not-goes-before : goal.returns-then-not-goes-before
-returns-then-not-goes-before g c = record {
+pub returns-then-not-goes_before : goal.returns-then-not-goes_before
+returns-then-not-goes_before g c = record {
   room = c.loop-at.invariant.1;
   up = c.loop-at.invariant.2;
   gap = λ d entries count gap. (
     c.loop-at.invariant.3 d entries count gap,
     λ p b.
-        rw (above_one p c.above-up.result c.loop-at.at b c.above-up.ensures, sym (c.held-at-over.ensures d))
-        (sym c.goes-before.ensures ∙ c.if-not-goes-before.true),
+        rw (above_one p c.above-up.result c.loop-at.at b c.above-up.ensures, sym (c.held_at-over.ensures d))
+        (sym c.goes_before.ensures ∙ c.if-not-goes_before.true),
   );
 }

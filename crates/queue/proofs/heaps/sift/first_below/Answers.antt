@@ -5,16 +5,16 @@ use Rattle.queue.specs.Order.{ahead}
 use Rattle.queue.proofs.Gaps.{first_changed, first_kept}
 use Rattle.queue.proofs.Looks.{ahead_self}
 use Rattle.queue.proofs.heaps.sift.first_below.Goals as goal
-use Rattle.queue.proofs.heaps.sift.first_below.Goals.{then-goes-before, else-goes-before}
+use Rattle.queue.proofs.heaps.sift.first_below.Goals.{then-goes_before, else-goes_before}
 
 pub returns-then-start-end : goal.returns-then-start-end
 returns-then-start-end g c = λ d q b h. let span = (c.below-start.ensures q).0 (b, h) in absurd (omega (arith, span.0, span.1, c.if-start-end.true))
 
-pub held-at-leader-requires : goal.held-at-leader-requires
-held-at-leader-requires g c = omega (arith, ((c.below-start.ensures c.loop-next.first).1 (c.loop-next.invariant.0, c.loop-next.invariant.1)).1, c.requires)
+pub held_at-leader-requires : goal.held_at-leader-requires
+held_at-leader-requires g c = omega (arith, ((c.below-start.ensures c.loop-next.first).1 (c.loop-next.invariant.0, c.loop-next.invariant.1)).1, c.requires)
 
-pub held-at-other-requires : goal.held-at-other-requires
-held-at-other-requires g c = omega (arith, ((c.below-start.ensures c.loop-next.next).1 (omega (arith, c.loop-next.invariant.2), c.loop-next-test.true)).1, c.requires)
+pub held_at-other-requires : goal.held_at-other-requires
+held_at-other-requires g c = omega (arith, ((c.below-start.ensures c.loop-next.next).1 (omega (arith, c.loop-next.invariant.2), c.loop-next-test.true)).1, c.requires)
 
 pub loop-next-init : goal.loop-next-init
 loop-next-init g c = (
@@ -26,25 +26,25 @@ loop-next-init g c = (
 
 pub loop-next-preserved : goal.loop-next-preserved
 loop-next-preserved g c =
-    elim c.if-goes-before.branch [
-      | then-goes-before w ↦ rw w.first-is (
+    elim c.if-goes_before.branch [
+      | then-goes_before w ↦ rw w.first-is (
         omega (arith, c.loop-next.invariant.2),
         omega arith,
         omega (arith, c.loop-next.invariant.2),
         λ d. first_changed _ g.G.Gauge.earlier g.met.G.Gauge.compares (held_at d c.args.slots.now) _ c.loop-next.first c.loop-next.next (c.loop-next.invariant.3 d)
-            (told d ∙ w.if-goes-before.true),
+            (told d ∙ w.if-goes_before.true),
       )
-      | else-goes-before w ↦ rw w.first-is (
+      | else-goes_before w ↦ rw w.first-is (
         c.loop-next.invariant.0,
         c.loop-next.invariant.1,
         omega (arith, c.loop-next.invariant.2),
         λ d. first_kept _ g.G.Gauge.earlier g.met.G.Gauge.compares (held_at d c.args.slots.now) _ c.loop-next.first c.loop-next.next (c.loop-next.invariant.3 d)
-            (told d ∙ w.if-goes-before.false),
+            (told d ∙ w.if-goes_before.false),
       )
     ]
   where
-    told : (d : Slot _) → ahead g.G.Gauge.earlier (held_at d c.args.slots.now c.loop-next.next) (held_at d c.args.slots.now c.loop-next.first) ≡ c.goes-before.result
-    told d = rw (sym (c.held-at-other.ensures d), sym (c.held-at-leader.ensures d)) (sym c.goes-before.ensures)
+    told : (d : Slot _) → ahead g.G.Gauge.earlier (held_at d c.args.slots.now c.loop-next.next) (held_at d c.args.slots.now c.loop-next.first) ≡ c.goes_before.result
+    told d = rw (sym (c.held_at-other.ensures d), sym (c.held_at-leader.ensures d)) (sym c.goes_before.ensures)
 
 pub returns : goal.returns
 returns g c = λ d.

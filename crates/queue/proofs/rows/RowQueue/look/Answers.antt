@@ -9,7 +9,7 @@ pub returns : goal.returns
 returns g c =
     let xs = c.args.self.now.places.now in
     record {
-      answer = λ _. c.first-of.ensures;
-      first = λ _. subst (First g.G.Gauge.earlier (row_entries xs)) (sym c.first-of.ensures)
+      answer = λ _. c.first_of.ensures;
+      first = λ _. subst (First g.G.Gauge.earlier (row_entries xs)) (sym c.first_of.ensures)
           (look_first g.G.Gauge.no_worse g.G.Gauge.earlier g.met.G.Gauge.compares (row_entries xs) (length xs) (row_within xs));
     }

@@ -6,7 +6,7 @@ pub returns : goal.returns
 returns g c = record {
   answer = grind (arith, nat_tests);
   refused = λ h. absurd (omega arith);
-  room = c.set-place.ensures.room;
+  room = c.set_place.ensures.room;
   cleared = λ u. u;
-  entries = λ _ p. let set = c.set-place.ensures.entries p in grind (arith, nat_tests);
+  entries = λ _ p. let set = c.set_place.ensures.entries p in grind (arith, nat_tests);
 }
