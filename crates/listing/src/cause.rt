@@ -3,7 +3,7 @@ ghost use Rattle.std.specs.Prelude.{◌≡◌};
 ghost use Rattle.listing.specs.declared.cause.Cause.TheVariants.{File, Plan, Memory};
 
 use fault::{FileFault, PlanFault};
-use std::fmt;
+use std::alloc::AllocError;
 
 #[derive(Clone, Copy)]
 pub enum Cause {
@@ -31,10 +31,10 @@ impl From<PlanFault> for Cause {
     }
 }
 
-impl From<fmt::Error> for Cause {
+impl From<AllocError> for Cause {
     ghost from_gives = { λ _ r. r ≡ Memory };
 
-    fn from(_e: fmt::Error) -> Cause {
+    fn from(_e: AllocError) -> Cause {
         Cause::Memory
     }
 }

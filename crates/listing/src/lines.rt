@@ -6,7 +6,6 @@ use fault::Fault;
 use plan::{Plan, Run};
 use planfile::Kind;
 use std::alloc::{AllocError, Global};
-use std::fmt;
 
 // A refusal, numbered with the line that it is about.
 pub(crate) fn refused(heap: Global, line: usize, fault: Fault) -> Result<String, AllocError>
@@ -23,7 +22,7 @@ pub(crate) fn put_plan<K: Kind>(
     out: &mut String,
     word: &str,
     plan: &Plan<'_, K::Weight>,
-) -> fmt::Result
+) -> Result<(), AllocError>
     ensures { OnOk result (string_bytes out.new ≡ string_bytes out.old ++ plan_text K.Kind.numbers word.now plan.now.points plan.now.runs.now) }
 {
     let points = plan.points();
@@ -36,7 +35,11 @@ pub(crate) fn put_plan<K: Kind>(
 }
 
 // A point, then the runs that leave it.
-fn put_point<K: Kind>(out: &mut String, plan: &Plan<'_, K::Weight>, point: usize) -> fmt::Result
+fn put_point<K: Kind>(
+    out: &mut String,
+    plan: &Plan<'_, K::Weight>,
+    point: usize,
+) -> Result<(), AllocError>
     requires { point < plan.now.points }
     ensures { OnOk result (string_bytes out.new ≡ string_bytes out.old ++ point_text K.Kind.numbers plan.now.runs.now point) }
 {
@@ -49,7 +52,11 @@ fn put_point<K: Kind>(out: &mut String, plan: &Plan<'_, K::Weight>, point: usize
 }
 
 // Runs, the first of them with its number.
-fn put_runs<K: Kind>(out: &mut String, first: usize, runs: &[Run<K::Weight>]) -> fmt::Result
+fn put_runs<K: Kind>(
+    out: &mut String,
+    first: usize,
+    runs: &[Run<K::Weight>],
+) -> Result<(), AllocError>
     requires { first + length runs.now < 2 ^ 64 }
     ensures { OnOk result (string_bytes out.new ≡ string_bytes out.old ++ runs_text K.Kind.numbers first runs.now) }
 {
@@ -60,7 +67,7 @@ fn put_runs<K: Kind>(out: &mut String, first: usize, runs: &[Run<K::Weight>]) ->
 }
 
 // A run: its number, its head and the three numbers of its weight.
-fn put_run<K: Kind>(out: &mut String, number: usize, run: &Run<K::Weight>) -> fmt::Result
+fn put_run<K: Kind>(out: &mut String, number: usize, run: &Run<K::Weight>) -> Result<(), AllocError>
     ensures { OnOk result (string_bytes out.new ≡ string_bytes out.old ++ run_text K.Kind.numbers number run.now) }
 {
     let head = run.head;
