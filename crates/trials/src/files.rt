@@ -103,20 +103,15 @@ fn marked<K: Kind>(heap: Global, room: usize) -> Result<Vec<Run<K::Weight>>, Fai
 }
 
 // The table holds these runs, and then marks.
-fn check_table<K: Kind>(
-    rt: &impl Abort,
-    table: &[Run<K::Weight>],
-    lines: &[Line],
-) -> Result<(), Fail> {
+fn check_table<K: Kind>(rt: &impl Abort, case: &str, table: &[Run<K::Weight>], lines: &[Line]) {
     for (k, run) in table.iter().enumerate() {
         let want = lines.get(k).copied().unwrap_or(MARK);
         assert_eq!(rt;
             (run.tail, run.head, K::numbers(run.weight)),
             want,
-            "place {k}"
+            "{case}: place {k}"
         );
     }
-    Ok(())
 }
 
 fn answer(res: Result<Header, FileFault>) -> Result<(usize, usize), Row> {
@@ -130,6 +125,7 @@ fn answer(res: Result<Header, FileFault>) -> Result<(usize, usize), Row> {
 fn check_read<K: Kind>(
     rt: &impl Abort,
     heap: Global,
+    case: &str,
     bytes: &[u8],
     room: usize,
     points: usize,
@@ -138,12 +134,13 @@ fn check_read<K: Kind>(
 ) -> Result<(), Fail> {
     let mut table = marked::<K>(heap, room)?;
     let got = answer(planfile::read::<K>(bytes, table.as_mut_slice()));
-    assert_eq!(rt; got, wanted((points, lines.len()), refusal));
+    assert_eq!(rt; got, wanted((points, lines.len()), refusal), "{case}");
     if refusal.is_none() {
-        check_table::<K>(rt, table.as_slice(), lines)
+        check_table::<K>(rt, case, table.as_slice(), lines);
     } else {
-        check_table::<K>(rt, table.as_slice(), &[])
+        check_table::<K>(rt, case, table.as_slice(), &[]);
     }
+    Ok(())
 }
 
 fn check_counts<K: Kind>(rt: &impl Abort, heap: Global, cases: &[Counts]) -> Result<(), Fail> {
@@ -152,18 +149,19 @@ fn check_counts<K: Kind>(rt: &impl Abort, heap: Global, cases: &[Counts]) -> Res
         let mut bytes = head(heap, *counts)?;
         bytes.resize(*size, 0)?;
         let lines = vec![in heap; (0, 0, [0, 0, 0]); usize::from(runs)]?;
+        let case = format!(in heap;
+            "{points} points, {runs} runs, kind {kind}, {size} bytes, {room} places"
+        )?;
         check_read::<K>(
             rt,
             heap,
+            case.as_str(),
             bytes.as_slice(),
             *room,
             usize::from(points),
             lines.as_slice(),
             *want,
-        )
-        .note(format_args!(
-            "{points} points, {runs} runs, kind {kind}, {size} bytes, {room} places"
-        ))?;
+        )?;
     }
     Ok(())
 }
@@ -181,8 +179,16 @@ fn check_weights<K: Kind>(
             lines.push((259, 772, *weight))?;
         }
         let bytes = file(heap, 5, kind, lines.as_slice())?;
-        check_read::<K>(rt, heap, bytes.as_slice(), 4, 5, lines.as_slice(), *want).note(
-            format_args!("{weights:?}"),
+        let case = format!(in heap; "{weights:?}")?;
+        check_read::<K>(
+            rt,
+            heap,
+            case.as_str(),
+            bytes.as_slice(),
+            4,
+            5,
+            lines.as_slice(),
+            *want,
         )?;
     }
     Ok(())
@@ -204,9 +210,36 @@ fn weights_are_refused_run_by_run_and_part_by_part(rt: HostRuntime) -> Result<()
 fn the_first_places_are_filled_and_the_others_stay(rt: HostRuntime) -> Result<(), Fail> {
     let heap = rt.alloc();
     let bytes = file(heap, 5, CABLE, &LEVEL_C)?;
-    check_read::<Cable>(&rt, heap, bytes.as_slice(), 5, 5, &LEVEL_C, None)?;
-    check_read::<Cable>(&rt, heap, bytes.as_slice(), 8, 5, &LEVEL_C, None)?;
-    check_read::<Cable>(&rt, heap, bytes.as_slice(), 4, 5, &LEVEL_C, Some((1, 6, 5)))
+    check_read::<Cable>(
+        &rt,
+        heap,
+        "as many places as runs",
+        bytes.as_slice(),
+        5,
+        5,
+        &LEVEL_C,
+        None,
+    )?;
+    check_read::<Cable>(
+        &rt,
+        heap,
+        "more places",
+        bytes.as_slice(),
+        8,
+        5,
+        &LEVEL_C,
+        None,
+    )?;
+    check_read::<Cable>(
+        &rt,
+        heap,
+        "one place too few",
+        bytes.as_slice(),
+        4,
+        5,
+        &LEVEL_C,
+        Some((1, 6, 5)),
+    )
 }
 
 #[test]
@@ -214,6 +247,24 @@ fn a_short_table_is_told_before_an_unmeasured_weight(rt: HostRuntime) -> Result<
     let heap = rt.alloc();
     let lines = [(0, 0, [ONES, 0, 0]), (0, 0, [0, 0, 0])];
     let bytes = file(heap, 1, CABLE, &lines)?;
-    check_read::<Cable>(&rt, heap, bytes.as_slice(), 1, 1, &lines, Some((1, 6, 2)))?;
-    check_read::<Cable>(&rt, heap, bytes.as_slice(), 2, 1, &lines, Some((1, 7, 0)))
+    check_read::<Cable>(
+        &rt,
+        heap,
+        "a short table",
+        bytes.as_slice(),
+        1,
+        1,
+        &lines,
+        Some((1, 6, 2)),
+    )?;
+    check_read::<Cable>(
+        &rt,
+        heap,
+        "a long enough table",
+        bytes.as_slice(),
+        2,
+        1,
+        &lines,
+        Some((1, 7, 0)),
+    )
 }

@@ -96,13 +96,13 @@ fn answer<T: Drop>(res: Result<T, PlanFault>) -> Result<T, Row> {
 
 fn check_counts(
     rt: &impl Abort,
+    case: &str,
     points: usize,
     runs: &[Run<usize>],
     refusal: Option<Row>,
-) -> Result<(), Fail> {
+) {
     let want = wanted((points, runs.len()), refusal);
-    assert_eq!(rt; answer(counts(points, runs)), want);
-    Ok(())
+    assert_eq!(rt; answer(counts(points, runs)), want, "{case}");
 }
 
 // The runs that leave each point, and the refusal of what is no point.
@@ -143,15 +143,13 @@ fn counts_come_before_runs_and_ends_before_order(rt: HostRuntime) -> Result<(), 
     let heap = rt.alloc();
     for (points, count, want) in COUNTS {
         let runs = table(heap, vec![in heap; (0, 0); count]?.as_slice())?;
-        check_counts(&rt, points, runs.as_slice(), want).note(format_args!(
-            "{points} points, {count} runs"
-        ))?;
+        let case = format!(in heap; "{points} points, {count} runs")?;
+        check_counts(&rt, case.as_str(), points, runs.as_slice(), want);
     }
     for (points, ends, want) in RUNS {
         let runs = table(heap, ends)?;
-        check_counts(&rt, points, runs.as_slice(), want).note(format_args!(
-            "{points} points, {ends:?}"
-        ))?;
+        let case = format!(in heap; "{points} points, {ends:?}")?;
+        check_counts(&rt, case.as_str(), points, runs.as_slice(), want);
     }
     Ok(())
 }

@@ -6,7 +6,6 @@ use gauge::house::Cable;
 use gauge::sum::Sum;
 use queue::{Entry, Heap, Held, Queue, Row, Slot};
 use std::process::Abort;
-use std::test::Fail;
 
 // A call of a queue. A put names its cost by a place in a table of costs.
 #[derive(Clone, Copy)]
@@ -148,14 +147,26 @@ fn side_by_side<G: Gauge, A: Queue<G>, B: Queue<G>>(
     costs: &[G::Cost],
     cost: G::Cost,
     seed: u64,
-) -> Result<(), Fail> {
-    assert_eq!(rt; a.capacity(), b.capacity());
-    assert_eq!(rt; first_unowed::<G, A>(a, cost, seed), None);
-    assert_eq!(rt; first_unowed::<G, B>(b, cost, seed), None);
+) {
+    let room = a.capacity();
+    assert_eq!(rt; room, b.capacity());
+    assert_eq!(rt;
+        first_unowed::<G, A>(a, cost, seed),
+        None,
+        "capacity {room}"
+    );
+    assert_eq!(rt;
+        first_unowed::<G, B>(b, cost, seed),
+        None,
+        "capacity {room}"
+    );
     a.clear();
     b.clear();
-    assert_eq!(rt; first_unlike::<G, A, B>(a, b, costs, 600, seed), None);
-    Ok(())
+    assert_eq!(rt;
+        first_unlike::<G, A, B>(a, b, costs, 600, seed),
+        None,
+        "capacity {room}"
+    );
 }
 
 // What memory holds at first: points and places of all sizes.
@@ -171,7 +182,7 @@ fn wild<C: Copy>(slots: &mut [Slot<C>], seed: u64) {
 const SUMS: [u32; COSTS] = [0, 1, 1, 2, 5, 5, 9, 4294967294];
 
 #[test]
-fn heap_and_row_answer_alike_at_sums(rt: HostRuntime) -> Result<(), Fail> {
+fn heap_and_row_answer_alike_at_sums(rt: HostRuntime) {
     for room in 0..32 {
         let entry = Entry {
             cost: 3u32,
@@ -191,14 +202,13 @@ fn heap_and_row_answer_alike_at_sums(rt: HostRuntime) -> Result<(), Fail> {
             &SUMS,
             4,
             room as u64,
-        ).note(format_args!("capacity {room}"))?;
+        );
     }
-    Ok(())
 }
 
 // Costs that tie in the first part, in the first two, or in all.
 #[test]
-fn heap_and_row_answer_alike_at_cables(rt: HostRuntime) -> Result<(), Fail> {
+fn heap_and_row_answer_alike_at_cables(rt: HostRuntime) {
     let costs = [
         cable_cost([0, 0, 0]),
         cable_cost([10, 1, 2]),
@@ -228,15 +238,13 @@ fn heap_and_row_answer_alike_at_cables(rt: HostRuntime) -> Result<(), Fail> {
             &costs,
             entry.cost,
             1000 + room as u64,
-        )
-        .note(format_args!("capacity {room}"))?;
+        );
     }
-    Ok(())
 }
 
 // Layers over heap and row answer as these do.
 #[test]
-fn a_layer_over_a_queue_is_a_queue(rt: HostRuntime) -> Result<(), Fail> {
+fn a_layer_over_a_queue_is_a_queue(rt: HostRuntime) {
     let entry = Entry {
         cost: 3u32,
         from: Some(1),
@@ -249,7 +257,7 @@ fn a_layer_over_a_queue_is_a_queue(rt: HostRuntime) -> Result<(), Fail> {
     let mut row: Row<Sum> = Row::new(&mut places);
     let mut owner = Owner { inner: heap };
     let mut borrower = Borrower { inner: &mut row };
-    side_by_side::<Sum, Owner<_>, Borrower<'_, _>>(&rt, &mut owner, &mut borrower, &SUMS, 4, 9)
+    side_by_side::<Sum, Owner<_>, Borrower<'_, _>>(&rt, &mut owner, &mut borrower, &SUMS, 4, 9);
 }
 
 // A point and the cost of its entry.
@@ -275,45 +283,48 @@ fn cost_of<Q: Queue<Sum>>(queue: &Q, point: u16) -> Option<u32> {
 }
 
 // Calls of a queue of four points, with the answers written by hand.
-fn by_hand<Q: Queue<Sum>>(rt: &impl Abort, queue: &mut Q) -> Result<(), Fail> {
+fn by_hand<Q: Queue<Sum>>(rt: &impl Abort, kind: &str, queue: &mut Q) {
     queue.clear();
-    assert_eq!(rt; seen(queue.look()), None);
-    assert_eq!(rt; seen(queue.take()), None);
-    assert_eq!(rt; put(queue, 2, 5), Ok(()));
-    assert_eq!(rt; put(queue, 1, 5), Ok(()));
-    assert_eq!(rt; put(queue, 3, 9), Ok(()));
+    assert_eq!(rt; seen(queue.look()), None, "{kind}");
+    assert_eq!(rt; seen(queue.take()), None, "{kind}");
+    assert_eq!(rt; put(queue, 2, 5), Ok(()), "{kind}");
+    assert_eq!(rt; put(queue, 1, 5), Ok(()), "{kind}");
+    assert_eq!(rt; put(queue, 3, 9), Ok(()), "{kind}");
     assert_eq!(rt;
         seen(queue.look()),
         Some((1, 5)),
-        "equal costs: the lower point"
+        "{kind}: equal costs: the lower point"
     );
-    assert_eq!(rt; put(queue, 3, 4), Ok(()));
+    assert_eq!(rt; put(queue, 3, 4), Ok(()), "{kind}");
     assert_eq!(rt;
         seen(queue.look()),
         Some((3, 4)),
-        "a better cost goes first"
+        "{kind}: a better cost goes first"
     );
-    assert_eq!(rt; put(queue, 3, 7), Ok(()));
-    assert_eq!(rt; seen(queue.look()), Some((1, 5)), "a worse cost goes back");
-    assert_eq!(rt; put(queue, 4, 0), Err(4), "no such point");
-    assert_eq!(rt; cost_of(queue, 4), None);
-    assert_eq!(rt; cost_of(queue, 3), Some(7));
-    assert_eq!(rt; seen(queue.take()), Some((1, 5)));
-    assert_eq!(rt; cost_of(queue, 1), None);
-    assert_eq!(rt; seen(queue.take()), Some((2, 5)));
-    assert_eq!(rt; put(queue, 0, 7), Ok(()));
-    assert_eq!(rt; seen(queue.take()), Some((0, 7)));
-    assert_eq!(rt; seen(queue.take()), Some((3, 7)));
-    assert_eq!(rt; seen(queue.take()), None);
-    assert_eq!(rt; put(queue, 3, 0), Ok(()));
+    assert_eq!(rt; put(queue, 3, 7), Ok(()), "{kind}");
+    assert_eq!(rt;
+        seen(queue.look()),
+        Some((1, 5)),
+        "{kind}: a worse cost goes back"
+    );
+    assert_eq!(rt; put(queue, 4, 0), Err(4), "{kind}: no such point");
+    assert_eq!(rt; cost_of(queue, 4), None, "{kind}");
+    assert_eq!(rt; cost_of(queue, 3), Some(7), "{kind}");
+    assert_eq!(rt; seen(queue.take()), Some((1, 5)), "{kind}");
+    assert_eq!(rt; cost_of(queue, 1), None, "{kind}");
+    assert_eq!(rt; seen(queue.take()), Some((2, 5)), "{kind}");
+    assert_eq!(rt; put(queue, 0, 7), Ok(()), "{kind}");
+    assert_eq!(rt; seen(queue.take()), Some((0, 7)), "{kind}");
+    assert_eq!(rt; seen(queue.take()), Some((3, 7)), "{kind}");
+    assert_eq!(rt; seen(queue.take()), None, "{kind}");
+    assert_eq!(rt; put(queue, 3, 0), Ok(()), "{kind}");
     queue.clear();
-    assert_eq!(rt; cost_of(queue, 3), None);
-    assert_eq!(rt; seen(queue.look()), None);
-    Ok(())
+    assert_eq!(rt; cost_of(queue, 3), None, "{kind}");
+    assert_eq!(rt; seen(queue.look()), None, "{kind}");
 }
 
 #[test]
-fn heap_and_row_answer_as_written_by_hand(rt: HostRuntime) -> Result<(), Fail> {
+fn heap_and_row_answer_as_written_by_hand(rt: HostRuntime) {
     let entry = Entry {
         cost: 0u32,
         from: None,
@@ -324,8 +335,8 @@ fn heap_and_row_answer_as_written_by_hand(rt: HostRuntime) -> Result<(), Fail> {
     let mut places = [Some(entry); 4];
     let mut heap: Heap<Sum> = Heap::new(&mut slots);
     let mut row: Row<Sum> = Row::new(&mut places);
-    by_hand::<Heap<'_, _>>(&rt, &mut heap).note("heap")?;
-    by_hand::<Row<'_, _>>(&rt, &mut row).note("row")
+    by_hand::<Heap<'_, _>>(&rt, "heap", &mut heap);
+    by_hand::<Row<'_, _>>(&rt, "row", &mut row);
 }
 
 // More places than there are points: the last ones are those of no point.
