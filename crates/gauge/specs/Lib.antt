@@ -3,6 +3,4 @@ pub mod Costs
 pub mod Zones
 pub mod Pairs
 pub mod Limits
-pub mod Pairing
-pub mod ZonesLemmas
-pub mod Numbers
+pub mod LawProofs

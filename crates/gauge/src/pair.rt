@@ -1,6 +1,6 @@
 ghost use Rattle.std.specs.Prelude.{◌≡◌, ◌&&◌, Decides};
 ghost use Rattle.gauge.specs.Pairs.{Ahead, both, lexical, three_parts};
-ghost use Rattle.gauge.specs.Pairing.{compares_pairs, carries_pairs};
+ghost use Rattle.gauge.specs.LawProofs.Pairing.{compares_pairs, carries_pairs};
 
 use crate::Gauge;
 

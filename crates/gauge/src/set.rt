@@ -1,7 +1,7 @@
 ghost use Rattle.std.specs.Prelude.{◌≡◌, ℕ, Decides, bit_or, nat_lt};
 ghost use Rattle.gauge.specs.Zones.{Among, Joined, Unites, inside, subset};
 ghost use Rattle.gauge.specs.Limits.{set_at, widest_set};
-ghost use Rattle.gauge.specs.ZonesLemmas.{compares_sets, carries_sets};
+ghost use Rattle.gauge.specs.LawProofs.Zones.{compares_sets, carries_sets};
 
 use crate::Gauge;
 

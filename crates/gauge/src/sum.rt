@@ -1,8 +1,7 @@
 ghost use Rattle.std.specs.Prelude.{◌≡◌, ◌+◌, nat_le, nat_lt};
 ghost use Rattle.gauge.specs.Costs.{within};
 ghost use Rattle.gauge.specs.Limits.{sum_at, widest_sum};
-ghost use Rattle.gauge.specs.Numbers.{compares_totals, carries_totals};
-ghost use Rattle.std.proofs.Common.{arith};
+ghost use Rattle.gauge.specs.LawProofs.Numbers.{compares_totals, carries_sums};
 
 use crate::Gauge;
 
@@ -52,7 +51,7 @@ impl Gauge for Sum {
 
     ghost compares = { compares_totals };
 
-    ghost carries = { λ g. carries_totals ◌+◌ (λ a w. omega arith) (λ a b w h. omega arith) g.limit };
+    ghost carries = { λ g. carries_sums g.limit };
 
     fn start() -> u32 {
         0

@@ -1,8 +1,7 @@
 ghost use Rattle.std.specs.Prelude.{◌≡◌, max, nat_le, nat_lt};
 ghost use Rattle.gauge.specs.Costs.{within};
 ghost use Rattle.gauge.specs.Limits.{worst_at, widest_worst};
-ghost use Rattle.gauge.specs.Numbers.{compares_totals, carries_totals};
-ghost use Rattle.std.proofs.Common.{arith};
+ghost use Rattle.gauge.specs.LawProofs.Numbers.{compares_totals, carries_worsts};
 
 use crate::Gauge;
 
@@ -50,7 +49,7 @@ impl Gauge for Worst {
 
     ghost compares = { compares_totals };
 
-    ghost carries = { λ g. carries_totals max (λ a w. omega arith) (λ a b w h. omega arith) g.limit };
+    ghost carries = { λ g. carries_worsts g.limit };
 
     fn start() -> u8 {
         0

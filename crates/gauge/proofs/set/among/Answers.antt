@@ -1,5 +1,5 @@
 use Rattle.std.proofs.Common.{rules}
-use Rattle.gauge.specs.ZonesLemmas.{subset_decides}
+use Rattle.gauge.specs.LawProofs.Zones.{subset_decides}
 use Rattle.gauge.proofs.set.among.Goals as goal
 
 pub returns : goal.returns

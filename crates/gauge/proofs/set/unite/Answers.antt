@@ -1,5 +1,5 @@
 use Rattle.std.proofs.Common.{refl}
-use Rattle.gauge.specs.ZonesLemmas.{or_unites, or_least}
+use Rattle.gauge.specs.LawProofs.Zones.{or_unites, or_least}
 use Rattle.gauge.proofs.set.unite.Goals as goal
 
 pub returns : goal.returns

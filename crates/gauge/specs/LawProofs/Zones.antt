@@ -8,7 +8,7 @@ use Rattle.std.proofs.lemmas.Nat.{shr-shr, and_shr, or_shr, and_le_r}
 use Rattle.std.proofs.lemmas.Bool.Decides.{nat_tests, Decides-eqb, Decides-like}
 use Rattle.gauge.specs.Laws.{Carries, Compares}
 use Rattle.gauge.specs.Zones.{Among, Unites, subset, inside}
-use Rattle.gauge.specs.Numbers.{carries_numbers, compares_numbers}
+use Rattle.gauge.specs.LawProofs.Numbers.{carries_numbers, compares_numbers}
 
 -- the digit of each place: of a & b the lesser, of a | b the greater
 and_digit : (a b k : ℕ) → bit_and a b / 2 ^ k % 2 ≡ min (a / 2 ^ k % 2) (b / 2 ^ k % 2)

@@ -1,5 +1,5 @@
 -- Gauges whose cost is one number, listed from the lowest.
-use Rattle.std.specs.Prelude.{◌≡◌, ℕ, ◌≤◌, Bool, true, false, cond, T, leb, Some, None, nat_le, nat_lt, refl}
+use Rattle.std.specs.Prelude.{◌≡◌, ℕ, ◌+◌, ◌≤◌, max, Bool, true, false, cond, T, Some, None, nat_le, nat_lt, refl}
 use Rattle.std.proofs.Common.{subst, arith}
 use Rattle.std.proofs.lemmas.Bool.Decides.{nat_tests}
 use Rattle.gauge.specs.Laws.{Carries, Compares}
@@ -43,10 +43,17 @@ module _ (no_worse : ℕ → ℕ → Bool) (transitive : (a b c : ℕ) → T (no
 at_most : (a b c : ℕ) → T (nat_le a b) → T (nat_le b c) → T (nat_le a c)
 at_most a b c p q = grind (arith, nat_tests)
 
-pub compares_totals : Compares ℕ leb nat_lt
-compares_totals = compares_numbers leb at_most (λ a. grind (arith, nat_tests)) (λ a b p. grind (arith, nat_tests))
+pub compares_totals : Compares ℕ nat_le nat_lt
+compares_totals = compares_numbers nat_le at_most (λ a. grind (arith, nat_tests)) (λ a b p. grind (arith, nat_tests))
 
 -- their step never lessens a number and keeps the order
-pub carries_totals : (step : ℕ → ℕ → ℕ) → ((a w : ℕ) → a ≤ step a w) → ((a b w : ℕ) → a ≤ b → step a w ≤ step b w) →
-    (limit : ℕ) → Carries ℕ ℕ leb (λ c w. within limit (step c w))
-carries_totals step grow keep = carries_numbers leb at_most step (λ a w. grind (arith, nat_tests, grow)) (λ a b w p. grind (arith, nat_tests, keep))
+carries_totals : (step : ℕ → ℕ → ℕ) → ((a w : ℕ) → a ≤ step a w) → ((a b w : ℕ) → a ≤ b → step a w ≤ step b w) →
+    (limit : ℕ) → Carries ℕ ℕ nat_le (λ c w. within limit (step c w))
+carries_totals step grow keep = carries_numbers nat_le at_most step (λ a w. grind (arith, nat_tests, grow)) (λ a b w p. grind (arith, nat_tests, keep))
+
+-- adding and keeping the greater are such steps
+pub carries_sums : (limit : ℕ) → Carries ℕ ℕ nat_le (λ c w. within limit (c + w))
+carries_sums = carries_totals ◌+◌ (λ a w. omega arith) (λ a b w h. omega arith)
+
+pub carries_worsts : (limit : ℕ) → Carries ℕ ℕ nat_le (λ c w. within limit (max c w))
+carries_worsts = carries_totals max (λ a w. omega arith) (λ a b w h. omega arith)
