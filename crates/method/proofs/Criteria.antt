@@ -1,5 +1,5 @@
 -- Labels that are sound, in order and closed list exactly the fronts.
-use Rattle.std.proofs.Common.{◌≡◌, ℕ, T, ◌⊎◌, List, Some, sym, refl, subst, inl, inr, ⊎_elim, arith}
+use Rattle.std.proofs.Common.{◌≡◌, ℕ, T, List, Some, subst, inl, ⊎_elim}
 use Rattle.std.proofs.lemmas.Bool.{cases_eq}
 use Rattle.std.specs.List.{slice_get}
 use Rattle.method.specs.declared.label.Label.{Label}

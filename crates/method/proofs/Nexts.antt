@@ -1,18 +1,17 @@
 -- The label that is listed next is an open candidate, and it is not after any cost that is reached and open.
-use Rattle.std.proofs.Common.{◌≡◌, ℕ, ◌<◌, ◌≤◌, Bool, true, false, T, ◌⊎◌, List, Some, None, Option, sym, refl, ap, ◌∙◌, subst, inl, inr, ⊎_elim, arith}
+use Rattle.std.proofs.Common.{◌≡◌, ℕ, ◌<◌, ◌≤◌, false, T, ◌⊎◌, List, Some, None, Option, refl, ap, subst, inl, inr, ⊎_elim, arith}
 use Rattle.std.specs.List.{slice_get}
 use Rattle.gauge.specs.Laws.{Compares}
 use Rattle.plan.specs.declared.runs.Run.{Run}
 use Rattle.plan.specs.Sound.{Ends}
 use Rattle.queue.specs.declared.entries.Entry.{Entry}
 use Rattle.queue.specs.declared.entries.Held.{Held}
-use Rattle.queue.specs.Order.{First, ahead, look}
+use Rattle.queue.specs.Order.{First, look}
 use Rattle.queue.proofs.Looks.{look_first}
 use Rattle.method.specs.declared.label.Label.{Label}
 use Rattle.method.specs.Tasks.{Task, Lawful}
 use Rattle.method.specs.Links.{entry_of}
-use Rattle.method.specs.Ties.{sooner}
-use Rattle.method.specs.Candidates.{Candidate, Covered, Extends, Open, Starts, open_at}
+use Rattle.method.specs.Candidates.{Candidate, Covered}
 use Rattle.method.specs.Waiting.{OpenCandidate, Waits, waiting}
 use Rattle.method.specs.Reference.{labelled, next}
 use Rattle.method.proofs.Cover.{covered_or_open, open_decides}

@@ -4,7 +4,7 @@ use Rattle.std.specs.List.{slice_get}
 use Rattle.plan.specs.declared.runs.Run.{Run}
 use Rattle.queue.specs.declared.entries.Entry.{Entry}
 use Rattle.method.specs.declared.label.Label.{Label}
-use Rattle.method.specs.Tasks.{Rules, Task}
+use Rattle.method.specs.Tasks.{Task}
 
 -- entry e at v is the start cost at the source, with no links
 pub record Starts {C W : Type 0} (t : Task C W) (v : ℕ) (e : Entry C) : Type 0 where

@@ -1,5 +1,5 @@
 -- The reference method: which label it lists next.
-use Rattle.std.specs.Prelude.{◌≡◌, ℕ, List, [], ◌∷◌, ◌++◌, Some, None, Option}
+use Rattle.std.specs.Prelude.{◌≡◌, List, [], ◌∷◌, ◌++◌, Some, None, Option}
 use Rattle.queue.specs.declared.entries.Held.{Held}
 use Rattle.queue.specs.Order.{look}
 use Rattle.method.specs.declared.label.Label.{Label}

@@ -1,4 +1,3 @@
-use Rattle.std.proofs.Common.{arith}
 use Rattle.method.proofs.wait.numbered.Goals as goal
 use Rattle.method.proofs.Turns.{take_few}
 

@@ -1,8 +1,8 @@
-use Rattle.std.proofs.Common.{◌≡◌, ◌<◌, cond, eqb, List, length, get_or, None, sym, ap, ◌∙◌, subst, arith}
+use Rattle.std.proofs.Common.{◌≡◌, cond, eqb, None, sym, ◌∙◌}
 use Rattle.std.proofs.lemmas.Bool.{eq-eqb, ne_eqb}
 use Rattle.method.specs.Tasks.{rules}
 use Rattle.method.specs.Ties.{sooner_of}
-use Rattle.method.specs.Waiting.{along_runs, from_labels}
+use Rattle.method.specs.Waiting.{from_labels}
 use Rattle.method.proofs.Turns.{runs_all, runs_turn, sooner_of_none}
 use Rattle.method.proofs.wait.soonest_at.Given as given
 use Rattle.method.proofs.wait.soonest_at.Goals as goal

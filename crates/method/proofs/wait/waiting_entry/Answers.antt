@@ -1,4 +1,4 @@
-use Rattle.std.proofs.Common.{sym, ap, ◌∙◌, subst, arith}
+use Rattle.std.proofs.Common.{sym, ap, ◌∙◌, subst}
 use Rattle.method.specs.Tasks.{rules, task}
 use Rattle.method.specs.Links.{counted}
 use Rattle.method.specs.Waiting.{Waits, waiting}

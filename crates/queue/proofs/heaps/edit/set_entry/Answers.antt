@@ -1,4 +1,4 @@
-use Rattle.std.proofs.Common.{◌+◌, length, refl, ap, arith}
+use Rattle.std.proofs.Common.{◌+◌, length, refl, arith}
 use Rattle.queue.specs.declared.heaps.slots.Slot.{Slot}
 use Rattle.queue.specs.InHeap.{Heaped, heap_entries}
 use Rattle.queue.specs.Map.{after_put}

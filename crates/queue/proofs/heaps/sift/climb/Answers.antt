@@ -1,5 +1,4 @@
-use Rattle.std.proofs.Common.{sym, ap, ◌∙◌, subst, arith}
-use Rattle.queue.specs.Order.{ahead}
+use Rattle.std.proofs.Common.{sym, ◌∙◌, subst, arith}
 use Rattle.queue.specs.Sifting.{Stood}
 use Rattle.queue.proofs.Gaps.{gap_up}
 use Rattle.queue.proofs.Levels.{above_less, above_one}
