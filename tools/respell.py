@@ -6,9 +6,11 @@ Run once, at the top of the repository, right after /opt/rattle/port/port.py:
     python3 tools/respell.py
 
 Definitions, lemmas, record fields and ghost members that are written in camel case or with dashes get snake case
-(`firstFrom` and `first-from` become `first_from`). Functions of src/, strings, inputs and outputs keep their names, and so do the
-names that Rattle makes for the goals of a function (proofs/F/Answers.antt, Invariants.antt). Where snake case would give a
-definition the name of something else, OTHER says what it is called instead. In README.md and docs/ only words in backticks change.
+(`firstFrom` and `first-from` become `first_from`), wherever they stand in the crates' sources, specs, proofs and must-fail edits.
+Functions of src/ are in snake case already; inputs and outputs are not read; and the names that Rattle makes for the goals of a
+function (proofs/F/Answers.antt, Invariants.antt) are not among those that are respelled. Where snake case would give a definition
+the name of something else, OTHER says what it is called instead. In README.md and docs/ only words in backticks change. Names that
+port.py had respelled itself are not known here, so pages that name those are mended by hand.
 """
 import glob
 import re

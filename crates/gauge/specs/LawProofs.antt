@@ -1,5 +1,5 @@
--- The proofs of the five laws. A gauge in src/ names them, and src/ may cite only what stands in specs/; nothing here is a definition,
--- and no contract rests on it.
+-- The proofs of the five laws. A gauge in src/ names them, and of this crate's own modules src/ may cite only those in specs/.
+-- No contract rests on anything here.
 pub mod Numbers
 pub mod Zones
 pub mod Pairing

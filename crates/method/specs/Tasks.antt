@@ -1,4 +1,4 @@
--- What a search is asked: a plan, a source, and a gauge at its limits.
+-- What the method is asked: a plan, a source, and a gauge at its limits.
 use Rattle.std.specs.Prelude.{ℕ, Bool, List, Option}
 use Rattle.gauge.specs.declared.Gauge.{Ghosts}
 use Rattle.gauge.specs.Laws.{Carries, Compares}

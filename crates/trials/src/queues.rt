@@ -149,7 +149,7 @@ fn side_by_side<G: Gauge, A: Queue<G>, B: Queue<G>>(
     seed: u64,
 ) {
     let room = a.capacity();
-    assert_eq!(rt; room, b.capacity());
+    assert_eq!(rt; room, b.capacity(), "capacity {room}");
     assert_eq!(rt;
         first_unowed::<G, A>(a, cost, seed),
         None,

@@ -47,7 +47,7 @@ pub compares_totals : Compares ℕ nat_le nat_lt
 compares_totals = compares_numbers nat_le at_most (λ a. grind (arith, nat_tests)) (λ a b p. grind (arith, nat_tests))
 
 -- their step never lessens a number and keeps the order
-carries_totals : (step : ℕ → ℕ → ℕ) → ((a w : ℕ) → a ≤ step a w) → ((a b w : ℕ) → a ≤ b → step a w ≤ step b w) →
+pub carries_totals : (step : ℕ → ℕ → ℕ) → ((a w : ℕ) → a ≤ step a w) → ((a b w : ℕ) → a ≤ b → step a w ≤ step b w) →
     (limit : ℕ) → Carries ℕ ℕ nat_le (λ c w. within limit (step c w))
 carries_totals step grow keep = carries_numbers nat_le at_most step (λ a w. grind (arith, nat_tests, grow)) (λ a b w p. grind (arith, nat_tests, keep))
 
