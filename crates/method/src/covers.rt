@@ -1,4 +1,4 @@
-ghost use Rattle.std.specs.Prelude.{◌≡◌, Decides};
+ghost use Rattle.std.specs.Prelude.{◌≡◌, ◌&&◌, ◌==◌, Decides};
 ghost use Rattle.method.specs.Candidates.{Open, open_at};
 
 use crate::label::Label;
@@ -10,9 +10,16 @@ pub fn is_open<G: Gauge>(labels: &[Label<G::Cost>], point: u16, cost: G::Cost) -
     ensures means { Decides result (Open G.Gauge.no_worse labels.now point cost) }
 {
     for label in labels {
-        if label.point == point && G::no_worse(label.cost, cost) {
+        if covers::<G>(label, point, cost) {
             return false;
         }
     }
     true
+}
+
+// Whether a label stands at a point and is no worse than a cost.
+fn covers<G: Gauge>(label: &Label<G::Cost>, point: u16, cost: G::Cost) -> bool
+    ensures { result ≡ (label.now.point == point && G.Gauge.no_worse label.now.cost cost) }
+{
+    label.point == point && G::no_worse(label.cost, cost)
 }

@@ -3,10 +3,9 @@ use Rattle.std.proofs.lemmas.Bool.Decides.{nat_tests}
 use Rattle.method.specs.Candidates.{open_at}
 use Rattle.method.proofs.Turns.{open_more, open_all, tested}
 use Rattle.method.proofs.covers.is_open.Goals as goal
-use Rattle.method.proofs.covers.is_open.Goals.{else-label-point-via-then-label-point+else-no_worse, else-label-point-via-else-label-point}
 
-pub returns-then-no_worse : goal.returns-then-no_worse
-returns-then-no_worse g c =
+pub returns-then-covers : goal.returns-then-covers
+returns-then-covers g c =
     let nw = g.G.Gauge.no_worse in
     let turn = open_more nw c.args.point c.args.cost c.args.labels.now c.loop-label.label-index c.label-item.result c.loop-label-test.true c.label-item.is in
     let e : false ≡ open_at nw c.args.labels.now c.args.point c.args.cost = grind (arith, nat_tests) in
@@ -16,7 +15,7 @@ returns-then-no_worse g c =
 pub loop-label-preserved : goal.loop-label-preserved
 loop-label-preserved g c =
     let turn = open_more g.G.Gauge.no_worse c.args.point c.args.cost c.args.labels.now c.loop-label.label-index c.label-item.result c.loop-label-test.true c.label-item.is in
-    elim c.else-label-point.branch [ else-label-point-via-then-label-point+else-no_worse w ↦ grind (arith, nat_tests) | else-label-point-via-else-label-point w ↦ grind (arith, nat_tests) ]
+    grind (arith, nat_tests)
 
 pub returns : goal.returns
 returns g c =
