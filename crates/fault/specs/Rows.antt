@@ -1,5 +1,5 @@
 -- The table of refusals: the layer, number and place of every fault. Printed refusals and promises rest on it.
-use Rattle.std.specs.Prelude.{ℕ}
+use Rattle.std.specs.Prelude.{ℕ, List, ◌++◌, codes, decimal}
 use Rattle.fault.specs.declared.row.Fault.{Fault}
 use Rattle.fault.specs.declared.file.FileFault.{FileFault}
 use Rattle.fault.specs.declared.file.FileFault.TheVariants as file
@@ -34,3 +34,7 @@ plan_row (plan.Point point) = row 2 17 point
 -- layer 3, setting limits
 abbrev pub limit_row : LimitFault → Fault
 limit_row (limit.Limit part) = row 3 11 part
+
+-- a row as it is printed: layer, number and place, parted by one space
+abbrev pub fault_text : Fault → List ℕ
+fault_text fault = decimal fault.layer ++ (codes " " ++ (decimal fault.number ++ (codes " " ++ decimal fault.place)))

@@ -24,12 +24,12 @@ pub enum FileFault {
     Class(usize),
 }
 
-impl FileFault {
-    // The layer, number and place of this fault.
-    pub fn row(self) -> Fault
-        ensures { result ≡ file_row self }
-    {
-        let (number, place) = match self {
+// The layer, number and place of the fault.
+impl From<FileFault> for Fault {
+    ghost from_gives = { λ fault row. row ≡ file_row fault };
+
+    fn from(fault: FileFault) -> Fault {
+        let (number, place) = match fault {
             FileFault::Short(place) => (1, place),
             FileFault::Points(place) => (2, place),
             FileFault::Runs(place) => (3, place),

@@ -10,12 +10,12 @@ pub enum LimitFault {
     Limit(usize),
 }
 
-impl LimitFault {
-    // The layer, number and place of this fault.
-    pub fn row(self) -> Fault
-        ensures { result ≡ limit_row self }
-    {
-        let LimitFault::Limit(place) = self;
+// The layer, number and place of the fault.
+impl From<LimitFault> for Fault {
+    ghost from_gives = { λ fault row. row ≡ limit_row fault };
+
+    fn from(fault: LimitFault) -> Fault {
+        let LimitFault::Limit(place) = fault;
         Fault {
             layer: 3,
             number: 11,

@@ -18,12 +18,12 @@ pub enum PlanFault {
     Point(usize),
 }
 
-impl PlanFault {
-    // The layer, number and place of this fault.
-    pub fn row(self) -> Fault
-        ensures { result ≡ plan_row self }
-    {
-        let (number, place) = match self {
+// The layer, number and place of the fault.
+impl From<PlanFault> for Fault {
+    ghost from_gives = { λ fault row. row ≡ plan_row fault };
+
+    fn from(fault: PlanFault) -> Fault {
+        let (number, place) = match fault {
             PlanFault::Points(place) => (2, place),
             PlanFault::Runs(place) => (3, place),
             PlanFault::End(place) => (9, place),
