@@ -35,6 +35,10 @@ abbrev pub part : {A B : Type 0} → ℕ → Option A → (A → Result B LimitF
 part n None make = Err (Limit n)
 part n (Some a) make = make a
 
+-- a gauge of three parts, or the first part that its limit did not make
+abbrev pub made : {A B C : Type 0} → Option A → Option B → Option C → Result (Pair A (Pair B C)) LimitFault
+made a b c = part 0 a (λ x. part 1 b (λ y. part 2 c (λ z. Ok (three_parts x y z))))
+
 -- decimetres, drillings, zones
 abbrev pub cable_at : ℕ → ℕ → ℕ → Result (Pair Sum (Pair Sum Set)) LimitFault
 cable_at decimetres drillings zones =

@@ -1,9 +1,9 @@
 // The two gauges of the house, and how they are made from three limits.
 ghost use Rattle.std.specs.Prelude.{◌≡◌, slice_index};
-ghost use Rattle.gauge.specs.Limits.{cable_at, drive_at, widest_cable, widest_drive};
-ghost use Rattle.gauge.specs.Pairs.{three_weights};
+ghost use Rattle.gauge.specs.Limits.{cable_at, drive_at, made, widest_cable, widest_drive};
+ghost use Rattle.gauge.specs.Pairs.{three_parts};
 
-use crate::pair::{Pair, PairWeight, three};
+use crate::pair::{Pair, three};
 use crate::set::Set;
 use crate::sum::Sum;
 use crate::worst::Worst;
@@ -13,57 +13,62 @@ use fault::LimitFault;
 pub type Cable = Pair<Sum, Pair<Sum, Set>>;
 
 // The weight of a run in each part of the cable gauge.
-pub type CableWeight = PairWeight<u32, PairWeight<u32, u32>>;
+pub type CableWeight = Pair<u32, Pair<u32, u32>>;
 
 // Decimetres, ramp class, crossings.
 pub type Drive = Pair<Sum, Pair<Worst, Sum>>;
 
 // The weight of a run in each part of the drive gauge.
-pub type DriveWeight = PairWeight<u32, PairWeight<u8, u32>>;
+pub type DriveWeight = Pair<u32, Pair<u8, u32>>;
 
 // The weight of a cable run.
 pub fn cable_weight(decimetres: u32, drillings: u32, zones: u32) -> CableWeight
-    ensures { result ≡ three_weights decimetres drillings zones }
+    ensures { result ≡ three_parts decimetres drillings zones }
 {
-    PairWeight {
-        first: decimetres,
-        second: PairWeight {
-            first: drillings,
-            second: zones,
-        },
-    }
+    three(decimetres, drillings, zones)
 }
 
 // The weight of a drive run.
 pub fn drive_weight(decimetres: u32, ramp: u8, crossings: u32) -> DriveWeight
-    ensures { result ≡ three_weights decimetres ramp crossings }
+    ensures { result ≡ three_parts decimetres ramp crossings }
 {
-    PairWeight {
-        first: decimetres,
-        second: PairWeight {
-            first: ramp,
-            second: crossings,
-        },
-    }
+    three(decimetres, ramp, crossings)
 }
 
 // The cable gauge at three limits; the first that is out of its range is refused.
 pub fn cable_at(limits: [u32; 3]) -> Result<Cable, LimitFault>
     ensures { result ≡ cable_at (slice_index limits 0) (slice_index limits 1) (slice_index limits 2) }
 {
-    let decimetres = Sum::new(limits[0]).ok_or(LimitFault::Limit(0))?;
-    let drillings = Sum::new(limits[1]).ok_or(LimitFault::Limit(1))?;
-    Ok(three(decimetres, drillings, Set::new(limits[2])))
+    made(
+        Sum::new(limits[0]),
+        Sum::new(limits[1]),
+        Some(Set::new(limits[2])),
+    )
 }
 
 // The drive gauge at three limits; the first that is out of its range is refused.
 pub fn drive_at(limits: [u32; 3]) -> Result<Drive, LimitFault>
     ensures { result ≡ drive_at (slice_index limits 0) (slice_index limits 1) (slice_index limits 2) }
 {
-    let decimetres = Sum::new(limits[0]).ok_or(LimitFault::Limit(0))?;
-    let ramp = Worst::new(limits[1]).ok_or(LimitFault::Limit(1))?;
-    let crossings = Sum::new(limits[2]).ok_or(LimitFault::Limit(2))?;
-    Ok(three(decimetres, ramp, crossings))
+    made(
+        Sum::new(limits[0]),
+        Worst::new(limits[1]),
+        Sum::new(limits[2]),
+    )
+}
+
+// The gauge of three parts, or the first part that its limit did not make.
+fn made<A: Copy, B: Copy, C: Copy>(
+    first: Option<A>,
+    second: Option<B>,
+    third: Option<C>,
+) -> Result<Pair<A, Pair<B, C>>, LimitFault>
+    ensures { result ≡ made first second third }
+{
+    let first = first.ok_or(LimitFault::Limit(0))?;
+    let second = second.ok_or(LimitFault::Limit(1))?;
+    let third = third.ok_or(LimitFault::Limit(2))?;
+    Ok(three(first, second, third))
 }
 
 // The cable gauge at its widest limits.

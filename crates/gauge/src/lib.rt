@@ -37,6 +37,7 @@ pub trait Gauge {
     fn no_worse(a: Self::Cost, b: Self::Cost) -> bool
         ensures { result ≡ no_worse a b };
 
+    // A function of the gauge, as the other three are, and not an Ord of its costs: numbers are costs of several gauges.
     fn before(a: Self::Cost, b: Self::Cost) -> bool
         ensures { result ≡ earlier a b };
 

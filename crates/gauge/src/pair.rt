@@ -4,23 +4,9 @@ ghost use Rattle.gauge.specs.LawProofs.Pairing.{compares_pairs, carries_pairs};
 
 use crate::Gauge;
 
-// Two gauges as one.
-#[derive(Clone, Copy)]
+// Two things as one: two gauges, and under them a cost for each or a weight for each.
+#[derive(Clone, Copy, Debug, PartialEq, Eq)]
 pub struct Pair<A, B> {
-    pub first: A,
-    pub second: B,
-}
-
-// The cost under a pair of gauges: a cost for each.
-#[derive(Clone, Copy)]
-pub struct PairCost<A, B> {
-    pub first: A,
-    pub second: B,
-}
-
-// The weight of a run under a pair of gauges: a weight for each.
-#[derive(Clone, Copy)]
-pub struct PairWeight<A, B> {
     pub first: A,
     pub second: B,
 }
@@ -39,9 +25,9 @@ pub(crate) fn three<A, B, C>(a: A, b: B, c: C) -> Pair<A, Pair<B, C>>
 }
 
 impl<A: Gauge, B: Gauge> Gauge for Pair<A, B> {
-    type Cost = PairCost<A::Cost, B::Cost>;
+    type Cost = Pair<A::Cost, B::Cost>;
 
-    type Weight = PairWeight<A::Weight, B::Weight>;
+    type Weight = Pair<A::Weight, B::Weight>;
 
     ghost origin = { record { first = A.Gauge.origin; second = B.Gauge.origin } };
 
@@ -55,8 +41,8 @@ impl<A: Gauge, B: Gauge> Gauge for Pair<A, B> {
 
     ghost carries = { λ p. carries_pairs _ _ _ _ (A.Gauge.carries p.first) (B.Gauge.carries p.second) };
 
-    fn start() -> PairCost<A::Cost, B::Cost> {
-        PairCost {
+    fn start() -> Pair<A::Cost, B::Cost> {
+        Pair {
             first: A::start(),
             second: B::start(),
         }
@@ -64,19 +50,19 @@ impl<A: Gauge, B: Gauge> Gauge for Pair<A, B> {
 
     fn along(
         &self,
-        cost: PairCost<A::Cost, B::Cost>,
-        weight: PairWeight<A::Weight, B::Weight>,
-    ) -> Option<PairCost<A::Cost, B::Cost>> {
+        cost: Pair<A::Cost, B::Cost>,
+        weight: Pair<A::Weight, B::Weight>,
+    ) -> Option<Pair<A::Cost, B::Cost>> {
         let first = self.first.along(cost.first, weight.first)?;
         let second = self.second.along(cost.second, weight.second)?;
-        Some(PairCost { first, second })
+        Some(Pair { first, second })
     }
 
-    fn no_worse(a: PairCost<A::Cost, B::Cost>, b: PairCost<A::Cost, B::Cost>) -> bool {
+    fn no_worse(a: Pair<A::Cost, B::Cost>, b: Pair<A::Cost, B::Cost>) -> bool {
         A::no_worse(a.first, b.first) && B::no_worse(a.second, b.second)
     }
 
-    fn before(a: PairCost<A::Cost, B::Cost>, b: PairCost<A::Cost, B::Cost>) -> bool
+    fn before(a: Pair<A::Cost, B::Cost>, b: Pair<A::Cost, B::Cost>) -> bool
         ensures result { result ≡ lexical (A.Gauge.earlier a.first b.first) (A.Gauge.earlier b.first a.first) (B.Gauge.earlier a.second b.second) }
         ensures order { Decides result (Ahead A.Gauge.earlier B.Gauge.earlier a b) }
     {

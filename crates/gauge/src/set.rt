@@ -53,11 +53,7 @@ impl Gauge for Set {
         ensures zones { Joined self.now.allowed cost weight result }
     {
         let zones = unite(cost, weight);
-        if among(zones, self.allowed) {
-            Some(zones)
-        } else {
-            None
-        }
+        among(zones, self.allowed).then_some(zones)
     }
 
     fn no_worse(a: u32, b: u32) -> bool
@@ -73,6 +69,7 @@ impl Gauge for Set {
 }
 
 // Whether every zone of a is one of b.
+#[tactic(auto, using(crate::specs::LawProofs::Zones::subset_decides))]
 fn among(a: u32, b: u32) -> bool
     ensures result { result ≡ subset a b }
     ensures zones { Decides result (Among a b) }

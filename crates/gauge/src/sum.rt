@@ -19,11 +19,7 @@ impl Sum {
     pub fn new(limit: u32) -> Option<Sum>
         ensures { result ≡ sum_at limit }
     {
-        if limit <= Self::WIDEST {
-            Some(Sum { limit })
-        } else {
-            None
-        }
+        (limit <= Self::WIDEST).then_some(Sum { limit })
     }
 
     // A sum up to the widest limit.
@@ -58,11 +54,9 @@ impl Gauge for Sum {
     }
 
     fn along(&self, cost: u32, weight: u32) -> Option<u32> {
-        if cost <= self.limit && weight <= self.limit - cost {
-            Some(cost + weight)
-        } else {
-            None
-        }
+        let limit = self.limit;
+        let total = cost.checked_add(weight)?;
+        (total <= limit).then_some(total)
     }
 
     fn no_worse(a: u32, b: u32) -> bool {

@@ -5,7 +5,8 @@ ghost use Rattle.gauge.specs.LawProofs.Numbers.{compares_totals, carries_worsts}
 
 use crate::Gauge;
 
-// Keeps the greatest class met, up to a limit: the steepest ramp.
+// Keeps the greatest class met, up to a limit: the steepest ramp. What it does at a run is all that sets it apart from a Sum, but that
+// is all that a gauge is: as one type of both, the step would be a trait with two impls and its laws.
 #[derive(Clone, Copy)]
 pub struct Worst {
     limit: u8,
@@ -19,11 +20,8 @@ impl Worst {
     pub fn new(limit: u32) -> Option<Worst>
         ensures { result ≡ worst_at limit }
     {
-        if limit <= Self::TOP as u32 {
-            Some(Worst { limit: limit as u8 })
-        } else {
-            None
-        }
+        let limit = u8::try_from(limit).ok()?;
+        (limit <= Self::TOP).then_some(Worst { limit })
     }
 
     // The worst class up to the greatest.
@@ -57,11 +55,7 @@ impl Gauge for Worst {
 
     fn along(&self, cost: u8, weight: u8) -> Option<u8> {
         let class = cost.max(weight);
-        if class <= self.limit {
-            Some(class)
-        } else {
-            None
-        }
+        (class <= self.limit).then_some(class)
     }
 
     fn no_worse(a: u8, b: u8) -> bool {
