@@ -1,4 +1,4 @@
-ghost use Rattle.std.specs.Prelude.{◌≡◌, ◌-◌, ◌≤◌, length, take, drop, IfOk};
+ghost use Rattle.std.specs.Prelude.{◌≡◌, length, IfOk};
 ghost use Rattle.plan.specs.Leave.{first_from, leaving_answer, part, Leave};
 ghost use Rattle.plan.specs.Sound.{Ordered};
 
@@ -6,7 +6,7 @@ use crate::plans::Plan;
 use crate::runs::Run;
 use fault::PlanFault;
 
-impl<'a, W: Copy> Plan<'a, W> {
+impl<'a, W> Plan<'a, W> {
     // The number of the first run whose tail is not below the point, or the number of runs.
     pub fn first_from(&self, point: usize) -> usize
         ensures { result ≡ first_from point self.now.runs.now }
@@ -15,6 +15,7 @@ impl<'a, W: Copy> Plan<'a, W> {
     }
 
     // The runs that leave a point, as one part of the run table, which begins at first_from(point).
+    #[tactic(auto, using(crate::proofs::Tails::part_within, crate::proofs::Tails::leaves))]
     pub fn leaving(&self, point: usize) -> Result<&'a [Run<W>], PlanFault>
         ensures answer { part result ≡ leaving_answer self.now.points self.now.runs.now point }
         ensures leave { IfOk (part result) (λ runs. Leave self.now.runs.now point (first_from point self.now.runs.now) (length runs)) }
@@ -24,32 +25,14 @@ impl<'a, W: Copy> Plan<'a, W> {
         }
         let first = self.first_from(point);
         let end = self.first_from(point + 1);
-        Ok(between(self.runs, first, end))
+        Ok(&self.runs[first..end])
     }
-}
-
-// The runs from number first up to end.
-fn between<W: Copy>(runs: &[Run<W>], first: usize, end: usize) -> &[Run<W>]
-    requires { (first ≤ end) × (end ≤ length runs.now) }
-    ensures { result.now ≡ take (end - first) (drop first runs.now) }
-{
-    &runs[first..end]
 }
 
 // Halves the part of the table that may hold the first tail not below the point.
-fn first_not_below<W: Copy>(runs: &[Run<W>], point: usize) -> usize
+fn first_not_below<W>(runs: &[Run<W>], point: usize) -> usize
     requires { Ordered runs.now }
     ensures { result ≡ first_from point runs.now }
 {
-    let mut low = 0;
-    let mut high = runs.len();
-    while low < high {
-        let mid = low + (high - low) / 2;
-        if (runs[mid].tail as usize) < point {
-            low = mid + 1;
-        } else {
-            high = mid;
-        }
-    }
-    low
+    runs.partition_point(|run| usize::from(run.tail) < point)
 }

@@ -3,7 +3,7 @@ ghost use Rattle.std.specs.Prelude.{◌≡◌};
 use crate::plans::Plan;
 use crate::runs::Run;
 
-impl<'a, W: Copy> Plan<'a, W> {
+impl<'a, W> Plan<'a, W> {
     // The number of points.
     pub fn points(&self) -> usize
         ensures { result ≡ self.now.points }

@@ -8,8 +8,9 @@ use crate::runs::Run;
 use crate::{MOST_POINTS, MOST_RUNS};
 use fault::PlanFault;
 
-impl<'a, W: Copy> Plan<'a, W> {
+impl<'a, W> Plan<'a, W> {
     // A plan of so many points over a run table, or the first reason why it is none.
+    #[tactic(auto, using(crate::proofs::Checks::check_sound, crate::proofs::Checks::sound_check, crate::proofs::Tails::parts_whole), unfolding(crate::specs::Make::plan_answer))]
     pub fn new(points: usize, runs: &'a [Run<W>]) -> Result<Plan<'a, W>, PlanFault>
         ensures answer { told result ≡ plan_answer points runs.now }
         ensures sound { Decides (is_ok result) (Sound points runs.now) }
@@ -21,10 +22,10 @@ impl<'a, W: Copy> Plan<'a, W> {
 }
 
 // The counts, then the runs.
-fn check<W: Copy>(points: usize, runs: &[Run<W>]) -> Result<(), PlanFault>
+fn check<W>(points: usize, runs: &[Run<W>]) -> Result<(), PlanFault>
     ensures { result ≡ check_answer points runs.now }
 {
-    if points < 1 || points > MOST_POINTS {
+    if !(1..=MOST_POINTS).contains(&points) {
         return Err(PlanFault::Points(points));
     }
     if runs.len() > MOST_RUNS {
@@ -33,13 +34,13 @@ fn check<W: Copy>(points: usize, runs: &[Run<W>]) -> Result<(), PlanFault>
     check_runs(points, runs)
 }
 
-// Run by run, ends before order.
-fn check_runs<W: Copy>(points: usize, runs: &[Run<W>]) -> Result<(), PlanFault>
+// Run by run, ends before order. A `for` that carries the last tail: a `try_fold` would say the same in more words.
+fn check_runs<W>(points: usize, runs: &[Run<W>]) -> Result<(), PlanFault>
     ensures { result ≡ runs_answer points 0 0 runs.now }
 {
     let mut last = 0;
     for (k, run) in runs.iter().enumerate() {
-        if run.tail as usize >= points || run.head as usize >= points {
+        if usize::from(run.tail) >= points || usize::from(run.head) >= points {
             return Err(PlanFault::End(k));
         }
         if run.tail < last {
