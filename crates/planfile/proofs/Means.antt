@@ -1,114 +1,72 @@
 -- The reader's answer and table, in words of the file.
-use Rattle.std.proofs.Common.{◌≡◌, ℕ, zero, suc, ◌+◌, ◌*◌, ◌<◌, ◌≤◌, true, List, [], ◌∷◌, ◌++◌, length, drop, is_ok, Some, Ok, Err, Decides, Result, sym, refl, ap, ◌∙◌, arith}
-use Rattle.std.proofs.lemmas.List.{append-nil}
-use Rattle.std.proofs.lemmas.Option.{slice_get_past}
+use Rattle.std.proofs.Common.{◌≡◌, ℕ, zero, suc, ◌+◌, ◌<◌, ◌≤◌, true, List, ◌++◌, length, drop, is_ok, Some, Ok, Err, Decides, Result, sym, refl, ap, ◌∙◌, arith}
+use Rattle.std.proofs.lemmas.Option.{gets}
+use Rattle.std.proofs.lemmas.Grind.{common_steps}
 use Rattle.std.proofs.lemmas.Bool.Decides.{nat_tests}
 use Rattle.std.specs.List.{slice_get}
 use Rattle.fault.specs.declared.file.FileFault.{FileFault}
 use Rattle.plan.specs.declared.runs.Run.{Run}
-use Rattle.planfile.specs.declared.kinds.WeightFault.{WeightFault}
-use Rattle.planfile.specs.declared.kinds.WeightFault.TheVariants.{Unmeasured, Class}
 use Rattle.planfile.specs.declared.reader.Header.{Header}
-use Rattle.planfile.specs.Bytes.{u16le}
 use Rattle.planfile.specs.Weights.{Weighing, and_then}
-use Rattle.planfile.specs.File.{points_in, runs_in, kind_in, weight_at, header_answer, run_with, run_at, runs_from, done, filled, file_runs, file_answer, file_table}
+use Rattle.planfile.specs.File.{points_in, runs_in, weight_at, header_answer, run_at, runs_from, filled, file_runs, file_answer, file_table}
 use Rattle.planfile.specs.Meaning.{Readable, Stands, Placed}
-use Rattle.planfile.proofs.Told.{runs_length, accepted_parts, refused_runs}
+use Rattle.planfile.proofs.Told.{header_told, first_read, runs_length, accepted_parts, refused_runs}
 
 -- places of two lists, one after the other
 nth_front : {X : Type 0} (xs ys : List X) (k : ℕ) → k < length xs → slice_get (xs ++ ys) k ≡ slice_get xs k
-nth_front [] ys k h = grind arith
-nth_front (x ∷ xs) ys zero h = refl
-nth_front (x ∷ xs) ys (suc k) h = nth_front xs ys k (omega arith)
+nth_front xs ys k h = grind (arith, common_steps, gets)
 
 nth_back : {X : Type 0} (xs ys : List X) (k : ℕ) → length xs ≤ k → slice_get (xs ++ drop (length xs) ys) k ≡ slice_get ys k
-nth_back [] ys k h = refl
-nth_back (x ∷ xs) [] zero h = grind arith
-nth_back (x ∷ xs) [] (suc k) h = slice_get_past (xs ++ []) k (rw append-nil (omega arith))
-nth_back (x ∷ xs) (y ∷ ys) zero h = grind arith
-nth_back (x ∷ xs) (y ∷ ys) (suc k) h = nth_back xs ys k (omega arith)
+nth_back xs ys k h = grind (arith, common_steps, gets)
 
 module _ {W : Type 0} (weighed : Weighing W) (bs : List ℕ) (r : ℕ) where
   -- a run that is read stands in the file
   run_stands : (k : ℕ) (x : Run W) → run_at weighed bs r k ≡ Ok x → Stands weighed bs r k x
-  run_stands k x e = by (weight_at weighed bs r k) refl e
-    where
-      by : (w : Result W WeightFault) → weight_at weighed bs r k ≡ w → run_with k (u16le bs (6 + 4 * k)) (u16le bs (6 + 4 * k + 2)) w ≡ Ok x → Stands weighed bs r k x
-      by (Ok w) is same = record { tail = grind arith; head = grind arith; weight = is ∙ (let part : w ≡ x.weight = grind arith in ap Ok part) }
-      by (Err Unmeasured) is same = grind arith
-      by (Err Class) is same = grind arith
+  run_stands k x e = record { tail = grind arith; head = grind arith; weight = grind arith }
 
   -- it is read exactly if it has a weight
   run_weight : (k : ℕ) → is_ok (run_at weighed bs r k) ≡ is_ok (weight_at weighed bs r k)
-  run_weight k = by (weight_at weighed bs r k)
-    where
-      by : (w : Result W WeightFault) → is_ok (run_with k (u16le bs (6 + 4 * k)) (u16le bs (6 + 4 * k + 2)) w) ≡ is_ok w
-      by (Ok w) = refl
-      by (Err Unmeasured) = refl
-      by (Err Class) = refl
-
-  -- the parts of n runs that were read
-  first_read : (n k : ℕ) (xs : List (Run W)) → runs_from weighed bs r (suc n) k ≡ Ok xs →
-      (x : Run W) × (ys : List (Run W)) × (run_at weighed bs r k ≡ Ok x) × (runs_from weighed bs r n (k + 1) ≡ Ok ys) × (xs ≡ x ∷ ys)
-  first_read n k xs e = by (run_at weighed bs r k) (runs_from weighed bs r n (k + 1)) refl refl e
-    where
-      by : (a : Result (Run W) FileFault) (b : Result (List (Run W)) FileFault) → run_at weighed bs r k ≡ a → runs_from weighed bs r n (k + 1) ≡ b →
-          and_then a (λ x. and_then b (λ ys. Ok (x ∷ ys))) ≡ Ok xs →
-          (x : Run W) × (ys : List (Run W)) × (run_at weighed bs r k ≡ Ok x) × (runs_from weighed bs r n (k + 1) ≡ Ok ys) × (xs ≡ x ∷ ys)
-      by (Ok x) (Ok ys) p q same = (x, ys, p, q, (let it : x ∷ ys ≡ xs = cc in sym it))
-      by (Ok x) (Err f) p q same = grind arith
-      by (Err f) b p q same = grind arith
+  run_weight k = grind arith
 
   -- each of n runs from number k on stands at its place
   runs_stand : (n k : ℕ) (xs : List (Run W)) → runs_from weighed bs r n k ≡ Ok xs → (j : ℕ) → j < n → (x : Run W) × (slice_get xs j ≡ Some x) × (run_at weighed bs r (k + j) ≡ Ok x)
   runs_stand zero k xs e j h = grind arith
   runs_stand (suc n) k xs e zero h =
-      let f = first_read n k xs e in
+      let f = first_read weighed bs r n k xs e in
       let here : k + 0 ≡ k = omega arith in
       (f.0, ap (λ l. slice_get l 0) f.4, ap (run_at weighed bs r) here ∙ f.2)
   runs_stand (suc n) k xs e (suc j) h =
-      let f = first_read n k xs e in
+      let f = first_read weighed bs r n k xs e in
       let on = runs_stand n (k + 1) f.1 f.3 j (omega arith) in
       let there : k + suc j ≡ k + 1 + j = omega arith in
       (on.0, ap (λ l. slice_get l (suc j)) f.4 ∙ on.1, ap (run_at weighed bs r) there ∙ on.2)
 
   -- runs that all have a weight are read
-  runs_read : (n k : ℕ) → ((j : ℕ) → j < n → is_ok (run_at weighed bs r (k + j)) ≡ true) → is_ok (runs_from weighed bs r n k) ≡ true
+  runs_read : (n k : ℕ) → ((j : ℕ) → k ≤ j → j < k + n → is_ok (weight_at weighed bs r j) ≡ true) → is_ok (runs_from weighed bs r n k) ≡ true
   runs_read zero k good = refl
   runs_read (suc n) k good =
-      by (run_at weighed bs r k) (runs_from weighed bs r n (k + 1))
-      (let here : k + 0 ≡ k = omega arith in ap (λ m. is_ok (run_at weighed bs r m)) (sym here) ∙ good 0 (omega arith))
-      (runs_read n (k + 1) (λ j h. let there : k + 1 + j ≡ k + suc j = omega arith in ap (λ m. is_ok (run_at weighed bs r m)) there ∙ good (suc j) (omega arith)))
-    where
-      by : (a : Result (Run W) FileFault) (b : Result (List (Run W)) FileFault) → is_ok a ≡ true → is_ok b ≡ true → is_ok (and_then a (λ x. and_then b (λ ys. Ok (x ∷ ys)))) ≡ true
-      by (Ok x) (Ok ys) p q = refl
-      by (Ok x) (Err f) p q = q
-      by (Err f) b p q = p
-
--- an accepted header
-header_good : (kind : ℕ) (bs : List ℕ) (room : ℕ) (h : Header) → header_answer kind bs room ≡ Ok h →
-    (6 ≤ length bs) × (1 ≤ points_in bs) × (points_in bs ≤ 256) × (runs_in bs ≤ 1024) × (kind_in bs ≡ kind) × (length bs ≡ 6 + 16 * runs_in bs) × (runs_in bs ≤ room) × (h.runs ≡ runs_in bs)
-header_good kind bs room h e =
-    (grind (arith, nat_tests), grind (arith, nat_tests), grind (arith, nat_tests), grind (arith, nat_tests), grind (arith, nat_tests), grind (arith, nat_tests), grind (arith, nat_tests), grind (arith, nat_tests))
+      let here = run_weight k ∙ good k (omega arith) (omega arith) in
+      let rest = runs_read n (k + 1) (λ j h l. good j (omega arith) (omega arith)) in
+      grind arith
 
 module _ {W : Type 0} (weighed : Weighing W) (bs : List ℕ) (kind room : ℕ) where
   -- the files that are accepted are those that can be read
   accepted_readable : (h : Header) → file_answer kind weighed bs room ≡ Ok h → Readable kind weighed bs room
   accepted_readable h e =
       let a = accepted_parts weighed bs kind room h e in
-      let g = header_good kind bs room h a.1 in
+      let told = header_told kind bs room h a.1 in
       record {
-        counts = g.0;
-        some_point = g.1;
-        few_points = g.2;
-        few_runs = g.3;
-        right_kind = g.4;
-        whole = g.5;
-        fits = g.6;
+        counts = grind (arith, nat_tests);
+        some_point = grind (arith, nat_tests);
+        few_points = grind (arith, nat_tests);
+        few_runs = grind (arith, nat_tests);
+        right_kind = grind (arith, nat_tests);
+        whole = grind (arith, nat_tests);
+        fits = grind (arith, nat_tests);
         weights = λ k l.
             let x = runs_stand weighed bs h.runs h.runs 0 a.0 a.2 k (omega arith) in
             let here : k ≡ 0 + k = omega arith in
-            ap (λ n. is_ok (weight_at weighed bs n k)) (sym g.7) ∙ sym (run_weight weighed bs h.runs k) ∙ ap (λ m. is_ok (run_at weighed bs h.runs m)) here ∙ ap is_ok x.2;
+            ap (λ n. is_ok (weight_at weighed bs n k)) (sym told.2) ∙ sym (run_weight weighed bs h.runs k) ∙ ap (λ m. is_ok (run_at weighed bs h.runs m)) here ∙ ap is_ok x.2;
       }
 
   readable_accepted : Readable kind weighed bs room → is_ok (file_answer kind weighed bs room) ≡ true
@@ -116,22 +74,15 @@ module _ {W : Type 0} (weighed : Weighing W) (bs : List ℕ) (kind room : ℕ) w
   readable_accepted s =
       let h : Header = record { points = points_in bs; runs = runs_in bs } in
       let head : header_answer kind bs room ≡ Ok h = grind (arith, nat_tests) in
-      let good = runs_read weighed bs (runs_in bs) (runs_in bs) 0
-      (λ j l. let here : 0 + j ≡ j = omega arith in
-      ap (λ m. is_ok (run_at weighed bs (runs_in bs) m)) here ∙ run_weight weighed bs (runs_in bs) j ∙ s.weights j l) in
-      ap (λ a. is_ok (and_then a (λ h. and_then (done (runs_from weighed bs h.runs h.runs 0)) (λ _. Ok h)))) head
-      ∙ by h (runs_from weighed bs (runs_in bs) (runs_in bs) 0) good
-    where
-      by : (h : Header) (b : Result (List (Run W)) FileFault) → is_ok b ≡ true → is_ok (and_then (done b) (λ _. Ok h)) ≡ true
-      by h (Ok xs) p = refl
-      by h (Err f) p = p
+      let good = runs_read weighed bs (runs_in bs) (runs_in bs) 0 (λ j _ l. s.weights j (omega arith)) in
+      grind arith
 
-  answer_readable : (r : Result Header FileFault) → r ≡ file_answer kind weighed bs room → Decides (is_ok r) (Readable kind weighed bs room)
+  pub answer_readable : (r : Result Header FileFault) → r ≡ file_answer kind weighed bs room → Decides (is_ok r) (Readable kind weighed bs room)
   answer_readable (Ok h) e = ((λ t. accepted_readable h (sym e)), (λ s. refl))
   answer_readable (Err f) e = ((λ t. grind arith), (λ s. ap is_ok e ∙ readable_accepted s))
 
 -- the run table after reading
-answer_placed : {W : Type 0} (weighed : Weighing W) (bs : List ℕ) (kind : ℕ) (before after : List (Run W)) (r : Result Header FileFault) →
+pub answer_placed : {W : Type 0} (weighed : Weighing W) (bs : List ℕ) (kind : ℕ) (before after : List (Run W)) (r : Result Header FileFault) →
     r ≡ file_answer kind weighed bs (length before) → after ≡ file_table kind weighed bs before → Placed weighed bs r before after
 unfolding file_table file_runs
 answer_placed {W} weighed bs kind before after (Ok h) e table = (
@@ -150,9 +101,3 @@ answer_placed {W} weighed bs kind before after (Ok h) e table = (
     full : after ≡ a.0 ++ drop (length a.0) before
     full = table ∙ ap (λ x. filled (and_then x (λ h. runs_from weighed bs h.runs h.runs 0)) before) a.1 ∙ ap (λ x. filled x before) a.2
 answer_placed weighed bs kind before after (Err f) e table = table ∙ ap (λ x. filled x before) (refused_runs weighed bs kind (length before) f (sym e))
-
--- both at once, as the reader states them
-pub answer_means : {W : Type 0} (weighed : Weighing W) (bs : List ℕ) (kind : ℕ) (before after : List (Run W)) (r : Result Header FileFault) →
-    r ≡ file_answer kind weighed bs (length before) → after ≡ file_table kind weighed bs before →
-    Decides (is_ok r) (Readable kind weighed bs (length before)) × Placed weighed bs r before after
-answer_means weighed bs kind before after r e table = (answer_readable weighed bs kind (length before) r e, answer_placed weighed bs kind before after r e table)

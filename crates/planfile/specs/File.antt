@@ -39,11 +39,15 @@ header_answer kind bs room =
     (cond (nat_lt room (runs_in bs)) (Err (file.Table (runs_in bs)))
     (Ok (record { points = points_in bs; runs = runs_in bs }))))))))
 
+-- the refusal of a file whose run k has a weight with this fault
+abbrev pub fault_at : ℕ → WeightFault → FileFault
+fault_at k Unmeasured = file.Unmeasured k
+fault_at k Class = file.Class k
+
 -- run k with its weight, or the fault of its weight
 abbrev pub run_with : {W : Type 0} → ℕ → ℕ → ℕ → Result W WeightFault → Result (Run W) FileFault
 run_with k tail head (Ok w) = Ok (record { tail = tail; head = head; weight = w })
-run_with k tail head (Err Unmeasured) = Err (file.Unmeasured k)
-run_with k tail head (Err Class) = Err (file.Class k)
+run_with k tail head (Err fault) = Err (fault_at k fault)
 
 -- what the three numbers of run k of r stand for: the weights of all runs stand after the ends of all runs
 abbrev pub weight_at : {W : Type 0} → Weighing W → List ℕ → ℕ → ℕ → Result W WeightFault

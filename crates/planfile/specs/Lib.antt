@@ -1,4 +1,5 @@
 pub mod Bytes
+pub mod Kinds
 pub mod Weights
 pub mod File
 pub mod Meaning

@@ -1,7 +1,7 @@
 -- What the three numbers of a run's weight mean in a file of each kind.
 use Rattle.std.specs.Prelude.{◌≡◌, ℕ, cond, List, [], ◌∷◌, Ok, Err, Result, ◌==◌, nat_lt}
-use Rattle.gauge.specs.declared.pair.PairWeight.{PairWeight}
-use Rattle.gauge.specs.Pairs.{three_weights}
+use Rattle.gauge.specs.declared.pair.Pair.{Pair}
+use Rattle.gauge.specs.Pairs.{three_parts}
 use Rattle.planfile.specs.declared.kinds.WeightFault.{WeightFault}
 use Rattle.planfile.specs.declared.kinds.WeightFault.TheVariants.{Unmeasured, Class}
 
@@ -27,14 +27,14 @@ abbrev pub class_number : ℕ → Result ℕ WeightFault
 class_number n = and_then (measured_number n) (λ m. cond (nat_lt 15 m) (Err Class) (Ok m))
 
 -- decimetres, drillings, zones: any 32 bits are a set of zones
-abbrev pub cable_reading : Weighing (PairWeight ℕ (PairWeight ℕ ℕ))
-cable_reading a b c = and_then (measured_number a) (λ decimetres. and_then (measured_number b) (λ drillings. Ok (three_weights decimetres drillings c)))
+abbrev pub cable_reading : Weighing (Pair ℕ (Pair ℕ ℕ))
+cable_reading a b c = and_then (measured_number a) (λ decimetres. and_then (measured_number b) (λ drillings. Ok (three_parts decimetres drillings c)))
 
 -- decimetres, ramp class, crossings
-abbrev pub drive_reading : Weighing (PairWeight ℕ (PairWeight ℕ ℕ))
+abbrev pub drive_reading : Weighing (Pair ℕ (Pair ℕ ℕ))
 drive_reading a b c =
-    and_then (measured_number a) (λ decimetres. and_then (class_number b) (λ ramp. and_then (measured_number c) (λ crossings. Ok (three_weights decimetres ramp crossings))))
+    and_then (measured_number a) (λ decimetres. and_then (class_number b) (λ ramp. and_then (measured_number c) (λ crossings. Ok (three_parts decimetres ramp crossings))))
 
 -- the three numbers of a weight
-abbrev pub three : PairWeight ℕ (PairWeight ℕ ℕ) → List ℕ
+abbrev pub three : Pair ℕ (Pair ℕ ℕ) → List ℕ
 three w = w.first ∷ w.second.first ∷ w.second.second ∷ []

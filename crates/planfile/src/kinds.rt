@@ -1,16 +1,17 @@
-// The kinds of plan file. A run's weight stands there as three numbers; each kind says what they mean.
-ghost use Rattle.std.specs.Prelude.{◌≡◌, ℕ, List};
+// The gauges with plan files. A run's weight stands there as three numbers; each gauge says what they mean.
+ghost use Rattle.std.specs.Prelude.{◌≡◌, ℕ, List, refl};
+ghost use Rattle.planfile.specs.declared.plan_kind.PlanKind.{PlanKind};
+ghost use Rattle.planfile.specs.declared.plan_kind.PlanKind.TheVariants.{Cable, Drive};
+ghost use Rattle.planfile.specs.Kinds.{IsNumberOf};
 ghost use Rattle.planfile.specs.Weights.{Kept, Weighing, measured_number, class_number, cable_reading, drive_reading, three};
+ghost use Rattle.planfile.specs.File.{fault_at};
 ghost use Rattle.std.proofs.Common.{rules};
 
+use crate::plan_kind::PlanKind;
+use fault::FileFault;
 use gauge::Gauge;
 use gauge::house::{Cable, CableWeight, Drive, DriveWeight, cable_weight, drive_weight};
 use gauge::worst::Worst;
-
-// The numbers of the kinds in a file.
-const CABLE: u16 = 1;
-
-pub(crate) const DRIVE: u16 = 2;
 
 // Why a number is no weight.
 #[derive(Clone, Copy)]
@@ -21,8 +22,23 @@ pub enum WeightFault {
     Class,
 }
 
+impl WeightFault {
+    // The refusal of a file in which the weight of a run has this fault.
+    pub(crate) fn at(self, run: usize) -> FileFault
+        ensures { result ≡ fault_at run self }
+    {
+        match self {
+            WeightFault::Unmeasured => FileFault::Unmeasured(run),
+            WeightFault::Class => FileFault::Class(run),
+        }
+    }
+}
+
 // A gauge with plan files of its own kind.
 pub trait Kind: Gauge {
+    // Which kind it is.
+    ghost kind: { PlanKind };
+
     // The kind's number in a file.
     ghost number: { ℕ };
 
@@ -32,8 +48,14 @@ pub trait Kind: Gauge {
     // The three numbers of a weight.
     ghost numbers: { Self.Weight → List ℕ };
 
+    fn kind() -> PlanKind
+        ensures { result ≡ kind };
+
     fn number() -> u16
-        ensures { result ≡ number };
+        ensures { result ≡ number }
+    {
+        u16::from(Self::kind())
+    }
 
     fn weigh(a: u32, b: u32, c: u32) -> Result<Self::Weight, WeightFault>
         ensures { result ≡ weighed a b c };
@@ -41,11 +63,14 @@ pub trait Kind: Gauge {
     fn numbers(weight: Self::Weight) -> [u32; 3]
         ensures { result ≡ numbers weight };
 
+    // The number is that of the kind.
+    ghost numbered: { IsNumberOf kind number };
+
     // A weight has the numbers that it was read from.
     ghost kept: { Kept weighed numbers };
 }
 
-// The weight of a total, or the mark.
+// The weight of a total, or the mark. An if: two outcomes, which a chain of `then_some` and `ok_or` says no plainer.
 fn measured(number: u32) -> Result<u32, WeightFault>
     ensures { result ≡ measured_number number }
 {
@@ -60,25 +85,27 @@ fn measured(number: u32) -> Result<u32, WeightFault>
 fn class(number: u32) -> Result<u8, WeightFault>
     ensures { result ≡ class_number number }
 {
-    let number = measured(number)?;
-    if number > Worst::TOP as u32 {
-        Err(WeightFault::Class)
-    } else {
-        Ok(number as u8)
+    match u8::try_from(measured(number)?) {
+        Ok(class) if class <= Worst::TOP => Ok(class),
+        _ => Err(WeightFault::Class),
     }
 }
 
 impl Kind for Cable {
+    ghost kind = { Cable };
+
     ghost number = { 1 };
 
     ghost weighed = { cable_reading };
 
     ghost numbers = { three };
 
+    ghost numbered = { refl };
+
     ghost kept = { Prim.search rules };
 
-    fn number() -> u16 {
-        CABLE
+    fn kind() -> PlanKind {
+        PlanKind::Cable
     }
 
     fn weigh(a: u32, b: u32, c: u32) -> Result<CableWeight, WeightFault> {
@@ -92,17 +119,22 @@ impl Kind for Cable {
     }
 }
 
+// As for cables but in the second part, a class: both impls name their parts, which one for all would have to be told.
 impl Kind for Drive {
+    ghost kind = { Drive };
+
     ghost number = { 2 };
 
     ghost weighed = { drive_reading };
 
     ghost numbers = { three };
 
+    ghost numbered = { refl };
+
     ghost kept = { Prim.search rules };
 
-    fn number() -> u16 {
-        DRIVE
+    fn kind() -> PlanKind {
+        PlanKind::Drive
     }
 
     fn weigh(a: u32, b: u32, c: u32) -> Result<DriveWeight, WeightFault> {
@@ -115,7 +147,7 @@ impl Kind for Drive {
     fn numbers(weight: DriveWeight) -> [u32; 3] {
         [
             weight.first,
-            weight.second.first as u32,
+            u32::from(weight.second.first),
             weight.second.second,
         ]
     }

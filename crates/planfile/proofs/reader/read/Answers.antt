@@ -1,28 +1,28 @@
-use Rattle.std.proofs.Common.{◌≡◌, length, Ok, rules}
+use Rattle.std.proofs.Common.{length, Ok, rules}
 use Rattle.planfile.specs.File.{file_runs, file_answer, file_table}
-use Rattle.planfile.proofs.Means.{answer_means}
+use Rattle.planfile.proofs.Means.{answer_readable, answer_placed}
 use Rattle.planfile.proofs.reader.read.Goals as goal
 
-pub returns-in_err-header : goal.returns-in_err-header
-unfolding file_runs file_answer file_table
-returns-in_err-header g c =
-    let answer : c.from_residual.result ≡ file_answer g.K.Kind.number g.K.Kind.weighed c.args.bytes.now (length c.args.table.now) = search rules in
-    let after : c.args.table.now ≡ file_table g.K.Kind.number g.K.Kind.weighed c.args.bytes.now c.args.table.now = search rules in
-    let means = answer_means g.K.Kind.weighed c.args.bytes.now g.K.Kind.number c.args.table.now _ _ answer after in
-    record { answer = answer; after = after; readable = means.0; placed = means.1 }
+pub returns-in_err-header-clause-readable : goal.returns-in_err-header-clause-readable
+unfolding file_answer
+returns-in_err-header-clause-readable g c =
+    let numbered = g.met.K.Kind.numbered in
+    answer_readable g.K.Kind.weighed c.args.bytes.now g.K.Kind.number (length c.args.table.now) _ (search rules)
 
-pub returns-in_err-check_weights : goal.returns-in_err-check_weights
-unfolding file_runs file_answer file_table
-returns-in_err-check_weights g c =
-    let answer : c.from_residual-in_err-check_weights.result ≡ file_answer g.K.Kind.number g.K.Kind.weighed c.args.bytes.now (length c.args.table.now) = search rules in
-    let after : c.args.table.now ≡ file_table g.K.Kind.number g.K.Kind.weighed c.args.bytes.now c.args.table.now = search rules in
-    let means = answer_means g.K.Kind.weighed c.args.bytes.now g.K.Kind.number c.args.table.now _ _ answer after in
-    record { answer = answer; after = after; readable = means.0; placed = means.1 }
+pub returns-in_err-check_weights-clause-readable : goal.returns-in_err-check_weights-clause-readable
+unfolding file_answer
+returns-in_err-check_weights-clause-readable g c =
+    let numbered = g.met.K.Kind.numbered in
+    answer_readable g.K.Kind.weighed c.args.bytes.now g.K.Kind.number (length c.args.table.now) _ (search rules)
 
-pub returns : goal.returns
+pub returns-clause-readable : goal.returns-clause-readable
+unfolding file_answer
+returns-clause-readable g c =
+    let numbered = g.met.K.Kind.numbered in
+    answer_readable g.K.Kind.weighed c.args.bytes.now g.K.Kind.number (length c.args.table.now) (Ok c.in_ok-header.header) (search rules)
+
+pub returns-clause-placed : goal.returns-clause-placed
 unfolding file_runs file_answer file_table
-returns g c =
-    let answer : Ok c.in_ok-header.header ≡ file_answer g.K.Kind.number g.K.Kind.weighed c.args.bytes.now (length c.args.table.now) = search rules in
-    let after : c.fill.new.table ≡ file_table g.K.Kind.number g.K.Kind.weighed c.args.bytes.now c.args.table.now = search rules in
-    let means = answer_means g.K.Kind.weighed c.args.bytes.now g.K.Kind.number c.args.table.now _ _ answer after in
-    record { answer = answer; after = after; readable = means.0; placed = means.1 }
+returns-clause-placed g c =
+    let numbered = g.met.K.Kind.numbered in
+    answer_placed g.K.Kind.weighed c.args.bytes.now g.K.Kind.number c.args.table.now c.fill.new.table (Ok c.in_ok-header.header) (search rules) (search rules)
