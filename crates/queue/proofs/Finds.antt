@@ -1,9 +1,13 @@
 -- The entries of a heap, by the places where they stand.
-use Rattle.std.proofs.Common.{◌≡◌, ℕ, zero, suc, ◌<◌, ◌≤◌, ◌≢◌, ◌⊎◌, List, [], ◌∷◌, length, Some, None, Option, sym, refl, ap, ◌∙◌, subst, inl, inr, ⊎_elim, arith}
+use Rattle.std.proofs.Common.{◌≡◌, Bool, true, false, eqb, ℕ, zero, suc, ◌<◌, ◌≤◌, ◌≢◌, ◌⊎◌, List, [], ◌∷◌, length, Some, None, Option, sym, refl, ap, ◌∙◌, subst, inl, inr, ⊎_elim, arith}
 use Rattle.std.proofs.lemmas.Bool.{cases_eq, eq-eqb, ne_eqb}
+use Rattle.std.proofs.lemmas.Bool.Decides.{nat_tests}
+use Rattle.std.specs.Bool.{then_some}
 use Rattle.queue.specs.declared.entries.Entry.{Entry}
 use Rattle.queue.specs.declared.heaps.slots.Slot.{Slot}
-use Rattle.queue.specs.InHeap.{heap_entries, held_at, noted_at}
+use Rattle.queue.specs.InHeap.{Heaped, heap_entries, held_at, noted_at}
+use Rattle.queue.specs.Sifting.{EntryAt, Standing}
+use Rattle.queue.specs.Within.{none_anywhere}
 
 -- a point has its entry at one of the first n places, or none of them is its own
 pub record At {C : Type 0} (d : Slot C) (s : List (Slot C)) (n p : ℕ) : Type 0 where
@@ -66,3 +70,16 @@ entry_somewhere d s n p e fits is =
     (λ (w : At d s n p). (w.place, w.inside, w.point))
     (λ (w : Nowhere d s n p). let none = w.entry in grind arith)
     (where_stands d s n p fits)
+
+-- where the place that a point's own place notes holds its entry, the entry stands there, and otherwise nowhere
+pub noted_or_nowhere : {C : Type 0} (d : Slot C) (s : List (Slot C)) (n point at : ℕ) → at ≡ noted_at d s point → at < n → Standing d s n point (then_some (eqb (held_at d s at).point point) at)
+noted_or_nowhere d s n point at is inside = go (eqb (held_at d s at).point point) refl
+  where
+    go : (t : Bool) → eqb (held_at d s at).point point ≡ t → Standing d s n point (then_some t at)
+    go true e = (inside, grind (arith, nat_tests, e))
+    go false e = λ fits noted i hi p. let same : at ≡ i = is ∙ ap (noted_at d s) (sym p) ∙ (noted i hi).1 in let q : (held_at d s at).point ≡ point = ap (λ t. (held_at d s t).point) same ∙ p in grind (arith, nat_tests, e, q)
+
+-- where each entry's place is noted, what stands at a point's place, or nowhere, is its entry, or none
+pub entry_at : {C : Type 0} {before : C → C → Bool} (s : List (Slot C)) (n point : ℕ) (o : Option ℕ) → Heaped before s n → ((d : Slot C) → Standing d s n point o) → EntryAt s n point o
+entry_at s n point None heap none = none_anywhere s n point heap.fits (λ d. none d heap.fits (heap.noted d))
+entry_at s n point (Some at) heap here = λ d. subst (λ t. heap_entries s n t ≡ Some (held_at d s at).entry) (here d).1 (entry_here d s n heap.fits (heap.noted d) at (here d).0)

@@ -1,5 +1,6 @@
 -- A heap, its first entry, and how a call opens a gap in it.
-use Rattle.std.proofs.Common.{◌≡◌, ℕ, zero, suc, ◌+◌, ◌<◌, ◌≤◌, Bool, false, cond, eqb, ◌≢◌, List, [], ◌∷◌, length, Some, None, Option, sym, refl, ap, ◌∙◌, subst, ⊎_elim, arith}
+use Rattle.std.proofs.Common.{◌≡◌, ℕ, zero, suc, ◌+◌, ◌<◌, ◌≤◌, Bool, false, cond, eqb, ◌≢◌, List, [], ◌∷◌, length, Some, None, Option, max, sym, refl, ap, ◌∙◌, subst, ⊎_elim, arith}
+use Rattle.std.specs.Option.{unwrap_or}
 use Rattle.std.proofs.lemmas.Bool.{cases_eq, eq-eqb, ne_eqb}
 use Rattle.std.proofs.lemmas.Bool.Decides.{nat_tests}
 use Rattle.gauge.specs.Laws.{Compares}
@@ -9,7 +10,7 @@ use Rattle.queue.specs.declared.heaps.slots.Slot.{Slot}
 use Rattle.queue.specs.Map.{after_put, after_take, without}
 use Rattle.queue.specs.Order.{Leads, ahead, look}
 use Rattle.queue.specs.InHeap.{Heaped, heap_entries, held_at}
-use Rattle.queue.specs.Sifting.{Gap}
+use Rattle.queue.specs.Sifting.{Gap, Standing}
 use Rattle.queue.specs.Within.{heap_within}
 use Rattle.queue.proofs.Finds.{entry_here, entry_somewhere, one_place}
 use Rattle.queue.proofs.Levels.{above_less, has_above}
@@ -106,6 +107,19 @@ module _ {C : Type 0} (no_worse before : C → C → Bool) (laws : Compares C no
           (λ (a : i ≢ n). ⊎_elim (λ (b : j ≡ n). absurd (other i (omega arith) (sym (at_i i a) ∙ e ∙ ap points b ∙ at_n)))
           (λ (b : j ≢ n). one_place d s n heap.fits (heap.noted d) i j (omega arith) (omega arith) (sym (at_i i a) ∙ e ∙ at_i j b)) (cases_eq j n))
           (cases_eq i n)
+
+  -- so a put finds a place for its entry, the noted one or that after the last
+  pub room_at : (point : ℕ) (o : Option ℕ) → point < length s → Standing d s n point o → unwrap_or o n < length s
+  room_at point None own none = room_left point own (none heap.fits (heap.noted d))
+  room_at point (Some at) own here = omega (arith, heap.fits, here.0)
+
+  -- x is in hand for a put, with the gap at place h
+  abbrev Put : Held C → ℕ → ℕ → Type 0
+  Put x count h = Gap before (after_put (length s) (heap_entries s n) x.point x.entry) d s count h x
+
+  pub gap_put : (x : Held C) (o : Option ℕ) (at count : ℕ) → x.point < length s → Standing d s n x.point o → at ≡ unwrap_or o n → count ≡ max n (at + 1) → Gap before (after_put (length s) (heap_entries s n) x.point x.entry) d s count at x
+  gap_put x None at count own none is most = subst (λ t. Put x count t) (sym is) (subst (λ t. Put x t n) (omega arith) (gap_new x (room_at x.point None own none) own (none heap.fits (heap.noted d))))
+  gap_put x (Some a) at count own here is most = subst (λ t. Put x count t) (sym is) (subst (λ t. Put x t a) (omega (arith, here.0)) (gap_old x a here.0 here.1))
 
   -- the entries but the first are those at the other places
   rest_listed : 0 < n → (i : ℕ) → i < n → i ≢ 0 → without (heap_entries s n) (Some (held_at d s 0)) (held_at d s i).point ≡ Some (held_at d s i).entry

@@ -1,11 +1,11 @@
 -- What stands in a heap's memory after a write.
-use Rattle.std.proofs.Common.{◌≡◌, ℕ, ◌<◌, ◌≤◌, cond, ◌&&◌, eqb, ltb, ◌≢◌, List, length, get_or, set, refl, ap, ◌∙◌, ⊎_elim, arith, length-set}
-use Rattle.std.proofs.lemmas.List.{get_or_default, get_or-set_same, get_or-set_other}
+use Rattle.std.proofs.Common.{◌≡◌, ℕ, ◌-◌, ◌<◌, cond, ◌&&◌, eqb, ltb, ◌≢◌, List, length, get_or, set, refl, ap, ◌∙◌, ⊎_elim, arith, length-set}
+use Rattle.std.proofs.lemmas.List.{get_or_default, get_or-set_same, get_or-set_other, get_or-take}
 use Rattle.std.proofs.lemmas.Bool.{cases_eq, eq-eqb, ne_eqb}
-use Rattle.std.proofs.lemmas.Bool.Decides.{nat_tests}
+use Rattle.std.specs.List.{slice_range}
 use Rattle.queue.specs.declared.entries.Held.{Held}
 use Rattle.queue.specs.declared.heaps.slots.Slot.{Slot}
-use Rattle.queue.specs.InHeap.{noted_at}
+use Rattle.queue.specs.InHeap.{held_at}
 use Rattle.queue.specs.Sifting.{Noted, Stood}
 
 module _ {X Y : Type 0} (f : X → Y) (d : X) (xs : List X) (at : ℕ) (v : X) (inside : at < length xs) where
@@ -26,20 +26,13 @@ module _ {X Y : Type 0} (f : X → Y) (d : X) (xs : List X) (at : ℕ) (v : X) (
       (cases_eq i at)
 
 module _ {C : Type 0} (d : Slot C) (s : List (Slot C)) where
-  -- a note at a place that is there
-  pub noted_here : (point at : ℕ) (y : Slot C) → point < length s → Noted d s point at (set s point (record { held = (get_or s point y).held; place = at }))
-  noted_here point at y inside = record {
-    room = length-set s point _;
-    held = read_kept (λ t. t.held) d s point _ inside (ap (λ t. t.held) (get_or_default s point y d inside));
-    place = λ p. read_set (λ t. t.place) d s point _ inside p ∙ here p;
-  }
-    where
-      here : (p : ℕ) → cond (eqb p point) at (noted_at d s p) ≡ cond (eqb p point && ltb p (length s)) at (noted_at d s p)
-      here p = grind (arith, nat_tests)
+  -- what stands at a place that is there is read the same whatever is read past the end
+  pub read_held : (i : ℕ) (x : Slot C) → i < length s → held_at x s i ≡ held_at d s i
+  read_held i x inside = ap (λ t. t.held) (get_or_default s i x d inside)
 
-  -- a note for a point without a place writes nothing
-  pub noted_nowhere : (point at : ℕ) → length s ≤ point → Noted d s point at s
-  noted_nowhere point at past = record { room = refl; held = λ i. refl; place = λ p. grind (arith, nat_tests) }
+  -- what stands in the front of the memory
+  pub read_front : (n i : ℕ) → i < n → get_or (slice_range s 0 n) i d ≡ get_or s i d
+  read_front n i inside = get_or-take (n - 0) s i d (omega arith)
 
   -- a write and its note
   pub stood_is : (at : ℕ) (x : Held C) (y : Slot C) (new : List (Slot C)) → at < length s → Noted d (set s at (record { held = x; place = (get_or s at y).place })) x.point at new → Stood d s at x new

@@ -73,3 +73,8 @@ LeadsBelow before d s count h (Some c) = FirstBelow before d s count h c
 abbrev pub Standing : {C : Type 0} → Slot C → List (Slot C) → ℕ → ℕ → Option ℕ → Type 0
 Standing d s count point None = count ≤ length s → ((i : ℕ) → i < count → ((held_at d s i).point < length s) × (noted_at d s (held_at d s i).point ≡ i)) → (i : ℕ) → i < count → (held_at d s i).point ≢ point
 Standing d s count point (Some at) = (at < count) × ((held_at d s at).point ≡ point)
+
+-- the entry of a point is that at the place, or there is none
+abbrev pub EntryAt : {C : Type 0} → List (Slot C) → ℕ → ℕ → Option ℕ → Type 0
+EntryAt s count point None = heap_entries s count point ≡ None
+EntryAt {C} s count point (Some at) = (d : Slot C) → heap_entries s count point ≡ Some (held_at d s at).entry

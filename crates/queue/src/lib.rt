@@ -40,7 +40,8 @@ pub trait Queue<G: Gauge> {
         ensures cleared { cleared self.new }
         ensures entries { (p : ℕ) → entries self.new p ≡ None };
 
-    // Sets the entry of a point, in the place of any that it has; a point not below the capacity is handed back, and nothing changes.
+    // Sets the entry of a point, in the place of any that it has; a point not below the capacity is handed back, as the Err, and nothing
+    // changes. The entry comes by reference: by value, each impl would have to repeat these clauses.
     fn put(&mut self, point: u16, entry: &Entry<G::Cost>) -> Result<(), u16>
         ensures answer { result ≡ put_answer (room self.old) point }
         ensures refused { room self.old ≤ point → self.new ≡ self.old }

@@ -17,7 +17,8 @@ pub(crate) fn above(place: usize) -> usize
 
 // The places right below one, of the first `count`.
 pub(crate) fn below(place: usize, count: usize) -> Range<usize>
-    ensures { (c : ℕ) → (Below place c × (c < count)) ↔ ((result.start ≤ c) × (c < result.end)) }
+    ensures inside { result.end ≤ count }
+    ensures places { (c : ℕ) → (Below place c × (c < count)) ↔ ((result.start ≤ c) × (c < result.end)) }
 {
     let start = place.saturating_mul(ARITY).saturating_add(1);
     start..start.saturating_add(ARITY).min(count)

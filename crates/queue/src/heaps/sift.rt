@@ -1,40 +1,40 @@
 // Sifting: how an entry finds its place in a heap. The entry stays in hand, and others move into the gap that it leaves.
-ghost use Rattle.std.specs.Prelude.{◌≡◌, ◌<◌, ◌≤◌, length};
+// The memory comes lent, with the count of its entries beside it and not cut off there: places past the count keep notes of points too.
+ghost use Rattle.std.specs.Prelude.{◌≡◌, ℕ, ◌<◌, ◌≤◌, length, Some};
 ghost use Rattle.queue.specs.declared.heaps.slots.Slot.{Slot};
 ghost use Rattle.queue.specs.Order.{ahead};
 ghost use Rattle.queue.specs.Sifting.{LeadsBelow, Lowered, Raised, Settled};
 
 use crate::entries::{Held, comes_before};
 use crate::heaps::levels::{above, below};
-use crate::heaps::slots::{Slot, held_at, stand};
+use crate::heaps::slots::{Slot, stand};
 use gauge::Gauge;
 use std::ops::Range;
 
-// The first entry goes before the second.
+// The first entry goes before the second. By hand, as costs are in order only by their gauge: they have no Ord to derive from.
 fn goes_before<G: Gauge>(a: &Held<G::Cost>, b: &Held<G::Cost>) -> bool
     ensures { result ≡ ahead G.Gauge.earlier a.now b.now }
 {
-    if comes_before::<G>(&a.entry, &b.entry) {
-        return true;
-    }
-    !comes_before::<G>(&b.entry, &a.entry) && a.point < b.point
+    comes_before::<G>(&a.entry, &b.entry)
+        || !comes_before::<G>(&b.entry, &a.entry) && a.point < b.point
 }
 
 // Moves the gap up past every entry that the one in hand goes before. Answers where the gap is then.
-fn climb<G: Gauge>(slots: &mut [Slot<G::Cost>], gap: usize, held: &Held<G::Cost>) -> usize
+fn climb<G: Gauge>(slots: &mut [Slot<G::Cost>], gap: usize, held: Held<G::Cost>) -> usize
     requires { gap < length slots.old }
     ensures room { length slots.new ≡ length slots.old }
     ensures up { result ≤ gap }
-    ensures gap { Raised G.Gauge.earlier slots.old gap held.now slots.new result }
+    ensures gap { Raised G.Gauge.earlier slots.old gap held slots.new result }
 {
+    // A while: each step goes to a place that depends on the last one, so no range or chain is plainer.
     let mut at = gap;
     while at > 0 {
         let up = above(at);
-        let over = held_at(slots, up);
-        if !goes_before::<G>(held, &over) {
+        let over = slots[up].held;
+        if !goes_before::<G>(&held, &over) {
             break;
         }
-        stand(slots, at, &over);
+        stand(slots, at, over);
         at = up;
     }
     at
@@ -43,17 +43,17 @@ fn climb<G: Gauge>(slots: &mut [Slot<G::Cost>], gap: usize, held: &Held<G::Cost>
 // Of the entries right below a place, the place of the one that goes first.
 fn first_below<G: Gauge>(slots: &[Slot<G::Cost>], count: usize, place: usize) -> Option<usize>
     requires { count ≤ length slots.now }
-    ensures { (d : Slot G.Cost) → LeadsBelow G.Gauge.earlier d slots.now count place result }
+    ensures inside { (at : ℕ) → result ≡ Some at → at < count }
+    ensures leads { (d : Slot G.Cost) → LeadsBelow G.Gauge.earlier d slots.now count place result }
 {
     let Range { start, end } = below(place, count);
     if start >= end {
         return None;
     }
+    // A for: as a `reduce` of the range, its indexes were not proved to be below the length at each turn.
     let mut first = start;
     for next in start + 1..end {
-        let leader = held_at(slots, first);
-        let other = held_at(slots, next);
-        if goes_before::<G>(&other, &leader) {
+        if goes_before::<G>(&slots[next].held, &slots[first].held) {
             first = next;
         }
     }
@@ -65,20 +65,21 @@ fn sink<G: Gauge>(
     slots: &mut [Slot<G::Cost>],
     count: usize,
     gap: usize,
-    held: &Held<G::Cost>,
+    held: Held<G::Cost>,
 ) -> usize
     requires { (gap < count) × (count ≤ length slots.old) }
     ensures room { length slots.new ≡ length slots.old }
     ensures inside { result < count }
-    ensures gap { Lowered G.Gauge.earlier count slots.old gap held.now slots.new result }
+    ensures gap { Lowered G.Gauge.earlier count slots.old gap held slots.new result }
 {
+    // A while, as in climb.
     let mut at = gap;
     while let Some(next) = first_below::<G>(slots, count, at) {
-        let under = held_at(slots, next);
-        if !goes_before::<G>(&under, held) {
+        let under = slots[next].held;
+        if !goes_before::<G>(&under, &held) {
             break;
         }
-        stand(slots, at, &under);
+        stand(slots, at, under);
         at = next;
     }
     at
@@ -89,11 +90,11 @@ pub(crate) fn settle<G: Gauge>(
     slots: &mut [Slot<G::Cost>],
     count: usize,
     gap: usize,
-    held: &Held<G::Cost>,
+    held: Held<G::Cost>,
 )
     requires { (gap < count) × (count ≤ length slots.old) }
     ensures room { length slots.new ≡ length slots.old }
-    ensures heap { Settled G.Gauge.earlier count slots.old gap held.now slots.new }
+    ensures heap { Settled G.Gauge.earlier count slots.old gap held slots.new }
 {
     let up = climb::<G>(slots, gap, held);
     let at = sink::<G>(slots, count, up, held);

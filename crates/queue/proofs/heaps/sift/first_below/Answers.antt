@@ -4,17 +4,12 @@ use Rattle.queue.specs.InHeap.{held_at}
 use Rattle.queue.specs.Order.{ahead}
 use Rattle.queue.proofs.Gaps.{first_changed, first_kept}
 use Rattle.queue.proofs.Looks.{ahead_self}
+use Rattle.queue.proofs.Views.{read_held}
 use Rattle.queue.proofs.heaps.sift.first_below.Goals as goal
 use Rattle.queue.proofs.heaps.sift.first_below.Goals.{then-goes_before, else-goes_before}
 
-pub returns-then-start-end : goal.returns-then-start-end
-returns-then-start-end g c = λ d q b h. let span = (c.below-start.ensures q).0 (b, h) in absurd (omega (arith, span.0, span.1, c.if-start-end.true))
-
-pub held_at-leader-requires : goal.held_at-leader-requires
-held_at-leader-requires g c = omega (arith, ((c.below-start.ensures c.loop-next.first).1 (c.loop-next.invariant.0, c.loop-next.invariant.1)).1, c.requires)
-
-pub held_at-other-requires : goal.held_at-other-requires
-held_at-other-requires g c = omega (arith, ((c.below-start.ensures c.loop-next.next).1 (omega (arith, c.loop-next.invariant.2), c.loop-next-test.true)).1, c.requires)
+pub returns-then-start-end-clause-leads : goal.returns-then-start-end-clause-leads
+returns-then-start-end-clause-leads g c = λ d q b h. let span = (c.below-start.ensures.places q).0 (b, h) in absurd (omega (arith, span.0, span.1, c.if-start-end.true))
 
 pub loop-next-init : goal.loop-next-init
 loop-next-init g c = (
@@ -44,13 +39,13 @@ loop-next-preserved g c =
     ]
   where
     told : (d : Slot _) → ahead g.G.Gauge.earlier (held_at d c.args.slots.now c.loop-next.next) (held_at d c.args.slots.now c.loop-next.first) ≡ c.goes_before.result
-    told d = rw (sym (c.held_at-other.ensures d), sym (c.held_at-leader.ensures d)) (sym c.goes_before.ensures)
+    told d = rw (sym (read_held d c.args.slots.now c.loop-next.next c.index-slots-next.result (omega arith)), sym (read_held d c.args.slots.now c.loop-next.first c.index-slots-first.result (omega arith))) (sym c.goes_before.ensures)
 
-pub returns : goal.returns
-returns g c = λ d.
-    let found = (c.below-start.ensures c.loop-next.first).1 (c.loop-next.invariant.0, c.loop-next.invariant.1) in
+pub returns-clause-leads : goal.returns-clause-leads
+returns-clause-leads g c = λ d.
+    let found = (c.below-start.ensures.places c.loop-next.first).1 (c.loop-next.invariant.0, c.loop-next.invariant.1) in
     record {
       below = found.0;
       inside = found.1;
-      leads = λ q b h. let span = (c.below-start.ensures q).0 (b, h) in c.loop-next.invariant.3 d q span.0 (omega (arith, span.1, c.loop-next-test.false));
+      leads = λ q b h. let span = (c.below-start.ensures.places q).0 (b, h) in c.loop-next.invariant.3 d q span.0 (omega (arith, span.1, c.loop-next-test.false));
     }
