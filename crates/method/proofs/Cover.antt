@@ -1,18 +1,26 @@
 -- Whether a cost is covered by a label at its point, or open.
-use Rattle.std.proofs.Common.{◌≡◌, ℕ, zero, suc, Bool, true, false, cond, ◌&&◌, T, eqb, ◌⊎◌, List, [], ◌∷◌, Some, Decides, refl, inl, inr, ⊎_elim, arith}
+use Rattle.std.proofs.Common.{◌≡◌, ℕ, zero, suc, Bool, true, false, cond, not, ◌&&◌, ◌||◌, T, eqb, ◌⊎◌, List, [], ◌∷◌, Some, Decides, refl, inl, inr, ⊎_elim, arith}
 use Rattle.std.proofs.lemmas.Bool.{eqb-true, both_ways}
 use Rattle.std.proofs.lemmas.Bool.Decides.{nat_tests}
-use Rattle.std.specs.List.{slice_get}
+use Rattle.std.proofs.lemmas.Float.{T_from_true}
+use Rattle.std.specs.List.{slice_get, list_any}
 use Rattle.method.specs.declared.label.Label.{Label}
 use Rattle.method.specs.Candidates.{Covered, Open, open_at}
-
-pub passes : (b : Bool) → b ≡ true → T b
-passes b e = grind arith
 
 pub refutes : (b : Bool) → b ≡ false → T b → ⊥
 refutes b e h = grind arith
 
 module _ {C : Type 0} (no_worse : C → C → Bool) where
+  -- a cost is open where no label covers it
+  pub open_none : (ls : List (Label C)) (v : ℕ) (c : C) → not (list_any (λ l. eqb l.point v && no_worse l.cost c) ls) ≡ open_at no_worse ls v c
+  open_none [] v c = refl
+  open_none (l ∷ ls) v c = by (eqb l.point v && no_worse l.cost c) (open_none ls v c)
+    where
+      by : (b : Bool) → not (list_any (λ m. eqb m.point v && no_worse m.cost c) ls) ≡ open_at no_worse ls v c →
+          not (b || list_any (λ m. eqb m.point v && no_worse m.cost c) ls) ≡ cond b false (open_at no_worse ls v c)
+      by true h = refl
+      by false h = h
+
   -- a cost that is not open is covered
   pub covered_or_open : (ls : List (Label C)) (v : ℕ) (c : C) → Covered no_worse ls v c ⊎ (open_at no_worse ls v c ≡ true)
   covered_or_open [] v c = inr refl
@@ -23,7 +31,7 @@ module _ {C : Type 0} (no_worse : C → C → Bool) where
 
       by : (a : Bool) → eqb l.point v ≡ a → (b : Bool) → no_worse l.cost c ≡ b → Covered no_worse ls v c ⊎ (open_at no_worse ls v c ≡ true) →
           Covered no_worse (l ∷ ls) v c ⊎ (cond (a && b) false (open_at no_worse ls v c) ≡ true)
-      by true p true q h = inl (record { number = 0; label = l; listed = refl; point = eqb-true l.point v p; better = passes (no_worse l.cost c) q })
+      by true p true q h = inl (record { number = 0; label = l; listed = refl; point = eqb-true l.point v p; better = T_from_true (no_worse l.cost c) q })
       by true p false q h = ⊎_elim (λ k. inl (further k)) inr h
       by false p b q h = ⊎_elim (λ k. inl (further k)) inr h
 

@@ -70,7 +70,7 @@ module _ {C W : Type 0} (t : Task C W) (law : Lawful t.rules) where
       first w p n (Some x) q f = record {
         label = record { point = x.point; cost = x.entry.cost; from = x.entry.from; run = x.entry.run };
         next_is = ap labelled q;
-        not_after = (before_weak t.rules.no_worse t.rules.before orders).skips e.cost w.cost x.entry.cost n (let u = f.unbeaten v w p in grind arith);
+        not_after = (before_weak t.rules.no_worse t.rules.before orders).chain e.cost w.cost x.entry.cost n (let u = f.unbeaten v w p in grind arith);
       }
 
       at : (o : Option (Entry C)) → waiting t ls v ≡ o → Waits t ls v o → InTime t ls e.cost
@@ -82,7 +82,7 @@ module _ {C W : Type 0} (t : Task C W) (law : Lawful t.rules) where
   no_worse_first a b h = grind (arith, law.compares.total a b, law.compares.better_first a b, law.compares.follows, law.compares.strict)
 
   in_time_weaker : (ls : List (Label C)) (a b : C) → T (t.rules.no_worse a b) → InTime t ls a → InTime t ls b
-  in_time_weaker ls a b h k = record { label = k.label; next_is = k.next_is; not_after = (before_weak t.rules.no_worse t.rules.before orders).skips b a k.label.cost (no_worse_first a b h) k.not_after }
+  in_time_weaker ls a b h k = record { label = k.label; next_is = k.next_is; not_after = (before_weak t.rules.no_worse t.rules.before orders).chain b a k.label.cost (no_worse_first a b h) k.not_after }
 
   pub covered_weaker : (ls : List (Label C)) (v : ℕ) (a b : C) → T (t.rules.no_worse a b) → Covered t.rules.no_worse ls v a → Covered t.rules.no_worse ls v b
   covered_weaker ls v a b h k = record { number = k.number; label = k.label; listed = k.listed; point = k.point; better = law.compares.transitive k.label.cost a b k.better h }

@@ -4,11 +4,6 @@ use Rattle.std.specs.List.{slice_get}
 use Rattle.method.specs.Sequences.{In, first, later, Distinct}
 
 module _ {X : Type 0} where
-  pub nth_below : (xs : List X) (i : ℕ) (x : X) → slice_get xs i ≡ Some x → i < length xs
-  nth_below [] i x p = grind arith
-  nth_below (a ∷ xs) zero x p = omega arith
-  nth_below (a ∷ xs) (suc i) x p = omega (arith, nth_below xs i x p)
-
   pub nth_one : (xs : List X) (i : ℕ) (x y : X) → slice_get xs i ≡ Some x → slice_get xs i ≡ Some y → x ≡ y
   nth_one xs i x y p q = cc
 
@@ -33,15 +28,6 @@ module _ {X : Type 0} where
   nth_take (suc n) [] i x p = absurd (grind arith)
   nth_take (suc n) (a ∷ xs) zero x p = (omega arith, p)
   nth_take (suc n) (a ∷ xs) (suc i) x p = let h = nth_take n xs i x p in (omega (arith, h.0), h.1)
-
-  pub take_push : (xs : List X) (y : X) (n : ℕ) → n ≤ length xs → take n (xs ++ y ∷ []) ≡ take n xs
-  take_push xs y zero h = refl
-  take_push [] y (suc n) h = absurd (omega arith)
-  take_push (a ∷ xs) y (suc n) h = ap (λ zs. a ∷ zs) (take_push xs y n (omega arith))
-
-  pub take_whole : (xs : List X) → take (length xs) xs ≡ xs
-  take_whole [] = refl
-  take_whole (a ∷ xs) = ap (λ zs. a ∷ zs) (take_whole xs)
 
   pub in_cases : {a x : X} {xs : List X} → In x (a ∷ xs) → (x ≡ a) ⊎ In x xs
   in_cases first = inl refl

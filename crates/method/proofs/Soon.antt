@@ -2,28 +2,24 @@
 use Rattle.std.proofs.Common.{◌≡◌, ℕ, Bool, true, false, cond, not, ◌&&◌, ◌||◌, ◌⊎◌, Some, None, Option, sym, refl, ◌∙◌, inl, inr, ⊎_elim, arith}
 use mathlib.Core.Bool.{false≢true}
 use Rattle.std.proofs.lemmas.Bool.Decides.{nat_tests}
+use Rattle.std.specs.Cmp.{IsStrictWeakOrder}
 use Rattle.gauge.specs.Laws.{Compares}
 use Rattle.queue.specs.declared.entries.Entry.{Entry}
 use Rattle.method.specs.Ties.{lower, wins_tie, sooner, sooner_of}
 use Rattle.method.specs.Waiting.{Soonest}
 
--- a strict order by a test, up to ties
-pub record Weak {X : Type 0} (f : X → X → Bool) : Type 0 where
-  pub asym : (a b : X) → f a b ≡ true → f b a ≡ false
-  pub skips : (a b c : X) → f a b ≡ false → f b c ≡ false → f a c ≡ false
-
 -- by one order, and where it does not tell by another
 abbrev lex : {X : Type 0} → (X → X → Bool) → (X → X → Bool) → X → X → Bool
 lex f g a b = f a b || (not (f b a) && g a b)
 
-lex_asym : {X : Type 0} (f g : X → X → Bool) → Weak f → Weak g → (a b : X) → lex f g a b ≡ true → lex f g b a ≡ false
-lex_asym f g wf wg a b e = grind (arith, wf.asym, wg.asym)
+lex_asym : {X : Type 0} (f g : X → X → Bool) → IsStrictWeakOrder f → IsStrictWeakOrder g → (a b : X) → lex f g a b ≡ true → lex f g b a ≡ false
+lex_asym f g wf wg a b e = grind (arith, wf.one_way, wg.one_way)
 
-lex_skips : {X : Type 0} (f g : X → X → Bool) → Weak f → Weak g → (a b c : X) → lex f g a b ≡ false → lex f g b c ≡ false → lex f g a c ≡ false
-lex_skips f g wf wg a b c d e = grind (arith, wf.asym, wf.skips, wg.skips)
+lex_skips : {X : Type 0} (f g : X → X → Bool) → IsStrictWeakOrder f → IsStrictWeakOrder g → (a b c : X) → lex f g a b ≡ false → lex f g b c ≡ false → lex f g a c ≡ false
+lex_skips f g wf wg a b c d e = grind (arith, wf.one_way, wf.chain, wg.chain)
 
-lex_weak : {X : Type 0} (f g : X → X → Bool) → Weak f → Weak g → Weak (lex f g)
-lex_weak f g wf wg = record { asym = lex_asym f g wf wg; skips = lex_skips f g wf wg }
+lex_weak : {X : Type 0} (f g : X → X → Bool) → IsStrictWeakOrder f → IsStrictWeakOrder g → IsStrictWeakOrder (lex f g)
+lex_weak f g wf wg = record { one_way = lex_asym f g wf wg; chain = lex_skips f g wf wg }
 
 lower_asym : (a b : Option ℕ) → lower a b ≡ true → lower b a ≡ false
 lower_asym None None e = refl
@@ -40,15 +36,15 @@ lower_same None (Some b) d e = absurd (false≢true (sym d))
 lower_same (Some a) None d e = absurd (false≢true (sym e))
 lower_same (Some a) (Some b) d e = let same : a ≡ b = grind (arith, nat_tests) in rw same
 
-lower_weak : {X : Type 0} (f : X → Option ℕ) → Weak (λ (a b : X). lower (f a) (f b))
-lower_weak f = record { asym = λ a b. lower_asym (f a) (f b); skips = λ a b c. lower_skips (f a) (f b) (f c) }
+lower_weak : {X : Type 0} (f : X → Option ℕ) → IsStrictWeakOrder (λ (a b : X). lower (f a) (f b))
+lower_weak f = record { one_way = λ a b. lower_asym (f a) (f b); chain = λ a b c. lower_skips (f a) (f b) (f c) }
 
-ties_weak : {C : Type 0} → Weak (wins_tie {C = C})
+ties_weak : {C : Type 0} → IsStrictWeakOrder (wins_tie {C = C})
 ties_weak {C} = lex_weak (λ (a b : Entry C). lower a.from b.from) (λ (a b : Entry C). lower a.run b.run) (lower_weak (λ (e : Entry C). e.from)) (lower_weak (λ (e : Entry C). e.run))
 
 module _ {C : Type 0} (no_worse before : C → C → Bool) (laws : Compares C no_worse before) where
-  pub before_weak : Weak before
-  before_weak = record { asym = λ a b e. asym a b e; skips = λ a b c d e. skips a b c d e }
+  pub before_weak : IsStrictWeakOrder before
+  before_weak = record { one_way = λ a b e. asym a b e; chain = λ a b c d e. skips a b c d e }
     where
       asym : (a b : C) → before a b ≡ true → before b a ≡ false
       asym a b e = grind (arith, laws.follows, laws.strict)
@@ -56,9 +52,9 @@ module _ {C : Type 0} (no_worse before : C → C → Bool) (laws : Compares C no
       skips : (a b c : C) → before a b ≡ false → before b c ≡ false → before a c ≡ false
       skips a b c d e = grind (arith, laws.total a b, laws.total b c, laws.follows, laws.strict)
 
-  pub sooner_weak : Weak (sooner before)
+  pub sooner_weak : IsStrictWeakOrder (sooner before)
   sooner_weak = lex_weak (λ (a b : Entry C). before a.cost b.cost) wins_tie
-      (record { asym = λ a b. before_weak.asym a.cost b.cost; skips = λ a b c. before_weak.skips a.cost b.cost c.cost })
+      (record { one_way = λ a b. before_weak.one_way a.cost b.cost; chain = λ a b c. before_weak.chain a.cost b.cost c.cost })
       ties_weak
 
   -- of two entries that differ one is sooner
@@ -74,7 +70,7 @@ module _ {C : Type 0} (no_worse before : C → C → Bool) (laws : Compares C no
     where
       go : (x : Bool) → sooner before a c ≡ x → x ≡ true
       go true p = refl
-      go false p = sym (sooner_weak.skips a c b p (sooner_weak.asym b c e)) ∙ d
+      go false p = sym (sooner_weak.chain a c b p (sooner_weak.one_way b c e)) ∙ d
 
   pub sooner_of_assoc : (a b c : Option (Entry C)) → sooner_of before (sooner_of before a b) c ≡ sooner_of before a (sooner_of before b c)
   sooner_of_assoc None b c = refl
@@ -97,7 +93,7 @@ module _ {C : Type 0} (no_worse before : C → C → Bool) (laws : Compares C no
       go true d true e = pick (sooner before c b) c b e ∙ sym (pick (sooner before c a) c a (sooner_trans c b a e d))
       go true d false e = skip (sooner before c b) c b e ∙ sym (pick (sooner before b a) b a d)
       go false d true e = refl
-      go false d false e = skip (sooner before c a) c a (sooner_weak.skips c b a e d) ∙ sym (skip (sooner before b a) b a d)
+      go false d false e = skip (sooner before c a) c a (sooner_weak.chain c b a e d) ∙ sym (skip (sooner before b a) b a d)
 
   -- the soonest of two kinds of entries is the sooner of the soonest of each
   pub soonest_both : (P Q : Entry C → Type 0) (a b : Option (Entry C)) → Soonest before P a → Soonest before Q b → Soonest before (λ e. P e ⊎ Q e) (sooner_of before a b)
@@ -107,8 +103,8 @@ module _ {C : Type 0} (no_worse before : C → C → Bool) (laws : Compares C no
   soonest_both P Q (Some a) (Some b) p q = go (sooner before b a) refl
     where
       go : (x : Bool) → sooner before b a ≡ x → Soonest before (λ e. P e ⊎ Q e) (cond x (Some b) (Some a))
-      go true e = (inr q.0, λ d h. ⊎_elim (λ k. sooner_weak.skips d a b (p.1 d k) (sooner_weak.asym b a e)) (q.1 d) h)
-      go false e = (inl p.0, λ d h. ⊎_elim (p.1 d) (λ k. sooner_weak.skips d b a (q.1 d k) e) h)
+      go true e = (inr q.0, λ d h. ⊎_elim (λ k. sooner_weak.chain d a b (p.1 d k) (sooner_weak.one_way b a e)) (q.1 d) h)
+      go false e = (inl p.0, λ d h. ⊎_elim (p.1 d) (λ k. sooner_weak.chain d b a (q.1 d k) e) h)
 
   -- there is only one soonest
   pub soonest_same : (P : Entry C → Type 0) (a b : Option (Entry C)) → Soonest before P a → Soonest before P b → a ≡ b

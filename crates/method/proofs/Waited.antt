@@ -50,7 +50,7 @@ module _ {C : Type 0} (no_worse before : C → C → Bool) (laws : Compares C no
   soonest_one (Some a) = (refl, λ d p. let same : a ≡ d = cc in let self : sooner before a a ≡ false = irreflexive (sooner before a a) refl in rw (← same) self)
     where
       irreflexive : (x : Bool) → sooner before a a ≡ x → sooner before a a ≡ false
-      irreflexive true e = (sooner_weak no_worse before laws).asym a a e
+      irreflexive true e = (sooner_weak no_worse before laws).one_way a a e
       irreflexive false e = e
 
   if_open_gives : (ls : List (Label C)) (v : ℕ) (o : Option (Entry C)) (e : Entry C) → if_open no_worse ls v o ≡ Some e → (o ≡ Some e) × Open no_worse ls v e.cost

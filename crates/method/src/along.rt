@@ -19,28 +19,13 @@ pub fn open_candidate<G: Gauge>(
 ) -> Option<Entry<G::Cost>>
     ensures { result ≡ open_candidate G.Gauge.no_worse (G.Gauge.reach gauge.now) labels.now from number run.now (slice_get labels.now from) }
 {
-    let label = label_at(labels, from)?;
-    let entry = extend(gauge, &label, from, number, run)?;
-    if is_open::<G>(labels, run.head, entry.cost) {
-        Some(entry)
-    } else {
-        None
-    }
-}
-
-// The label of a number, if there is one.
-fn label_at<C: Copy>(labels: &[Label<C>], number: u16) -> Option<Label<C>>
-    ensures { result ≡ slice_get labels.now number }
-{
-    let at = usize::from(number);
-    if at < labels.len() {
-        Some(labels[at])
-    } else {
-        None
-    }
+    let label = labels.get(usize::from(from))?;
+    let entry = extend(gauge, label, from, number, run)?;
+    is_open::<G>(labels, run.head, entry.cost).then_some(entry)
 }
 
 // A label gone along a run, if that leaves its point and no limit is passed, with both numbers as links.
+// Each number stands beside its label or run, as a chain hands the two out: a struct of both would only be made and taken apart.
 pub(crate) fn extend<G: Gauge>(
     gauge: &G,
     label: &Label<G::Cost>,

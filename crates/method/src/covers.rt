@@ -9,12 +9,7 @@ pub fn is_open<G: Gauge>(labels: &[Label<G::Cost>], point: u16, cost: G::Cost) -
     ensures result { result ≡ open_at G.Gauge.no_worse labels.now point cost }
     ensures means { Decides result (Open G.Gauge.no_worse labels.now point cost) }
 {
-    for label in labels {
-        if covers::<G>(label, point, cost) {
-            return false;
-        }
-    }
-    true
+    !labels.iter().any(|label| covers::<G>(label, point, cost))
 }
 
 // Whether a label stands at a point and is no worse than a cost.
