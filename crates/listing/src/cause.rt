@@ -5,6 +5,7 @@ ghost use Rattle.listing.specs.declared.cause.Cause.TheVariants.{File, Plan, Mem
 use fault::{FileFault, PlanFault};
 use std::alloc::AllocError;
 
+// Each `From` is written out, since contracts name what `?` makes of a fault.
 #[derive(Clone, Copy)]
 pub enum Cause {
     // The file was refused.

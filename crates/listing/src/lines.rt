@@ -1,76 +1,84 @@
 // The lines of a listing.
-ghost use Rattle.std.specs.Prelude.{◌≡◌, ◌+◌, ◌^◌, ◌<◌, ◌++◌, length, IfOk, string_bytes, OnOk};
-ghost use Rattle.listing.specs.Lines.{refused_text, run_text, runs_text, point_text, plan_text};
+ghost use Rattle.std.specs.Prelude.{◌+◌, ◌^◌, ◌<◌, ◌++◌, length, Some};
+ghost use Rattle.planfile.specs.Kinds.{word_of};
+ghost use Rattle.listing.specs.Lines.{plan_text, point_line, refused_text, run_text, runs_text};
 
 use fault::Fault;
 use plan::{Plan, Run};
 use planfile::Kind;
-use std::alloc::{AllocError, Global};
+use std::fmt;
 
 // A refusal, numbered with the line that it is about.
-pub(crate) fn refused(heap: Global, line: usize, fault: Fault) -> Result<String, AllocError>
-    ensures { IfOk result (λ s. string_bytes s ≡ refused_text line fault) }
-{
-    let layer = fault.layer;
-    let number = fault.number;
-    let place = fault.place;
-    format!(in heap; "refused {line} {layer} {number} {place}\n")
+#[derive(Drop)]
+pub(crate) struct Refusal {
+    pub(crate) line: usize,
+    pub(crate) fault: Fault,
 }
 
-// The plan, then its points in order.
-pub(crate) fn put_plan<K: Kind>(
-    out: &mut String,
-    word: &str,
-    plan: &Plan<'_, K::Weight>,
-) -> Result<(), AllocError>
-    ensures { OnOk result (string_bytes out.new ≡ string_bytes out.old ++ plan_text K.Kind.numbers word.now plan.now.points plan.now.runs.now) }
-{
-    let points = plan.points();
-    let runs = plan.runs().len();
-    write!(out, "plan {word} {points} {runs}\n")?;
-    for point in 0..points {
-        put_point::<K>(out, plan, point)?;
+impl fmt::Display for Refusal {
+    ghost output = { λ refusal. Some (refused_text refusal.line refusal.fault) };
+
+    fn fmt<W: fmt::Write>(&self, f: &mut fmt::Formatter<W>) -> fmt::Result {
+        write!(f, "refused {} {}\n", self.line, self.fault)
     }
-    Ok(())
 }
 
-// A point, then the runs that leave it.
-fn put_point<K: Kind>(
-    out: &mut String,
-    plan: &Plan<'_, K::Weight>,
+// A plan, then its points in order.
+#[derive(Drop)]
+pub(crate) struct Listing<'a, 'b, K: Kind> {
+    pub(crate) plan: &'a Plan<'b, K::Weight>,
+}
+
+impl<'a, 'b, K: Kind> fmt::Display for Listing<'a, 'b, K> {
+    ghost output = { λ listing. Some (plan_text K.Kind.numbers (word_of K.Kind.kind) listing.plan.now.points listing.plan.now.runs.now) };
+
+    fn fmt<W: fmt::Write>(&self, f: &mut fmt::Formatter<W>) -> fmt::Result {
+        let kind = K::kind();
+        let points = self.plan.points();
+        write!(f, "plan {kind} {points} {}\n", self.plan.runs().len())?;
+        for point in 0..points {
+            let runs = self.plan.leaving(point).unwrap();
+            let first = self.plan.first_from(point);
+            write!(f, "{}", PointLines::<K> { point, first, runs })?;
+        }
+        Ok(())
+    }
+}
+
+// A point, then the runs that leave it, the first of them with its number.
+#[derive(Drop)]
+struct PointLines<'a, K: Kind> {
     point: usize,
-) -> Result<(), AllocError>
-    requires { point < plan.now.points }
-    ensures { OnOk result (string_bytes out.new ≡ string_bytes out.old ++ point_text K.Kind.numbers plan.now.runs.now point) }
-{
-    let Ok(leaving) = plan.leaving(point) else {
-        return Ok(());
-    };
-    let count = leaving.len();
-    write!(out, "point {point} {count}\n")?;
-    put_runs::<K>(out, plan.first_from(point), leaving)
+    first: usize,
+    runs: &'a [Run<K::Weight>],
+    ghost numbered: { first + length runs.now < 2 ^ 64 },
 }
 
-// Runs, the first of them with its number.
-fn put_runs<K: Kind>(
-    out: &mut String,
-    first: usize,
-    runs: &[Run<K::Weight>],
-) -> Result<(), AllocError>
-    requires { first + length runs.now < 2 ^ 64 }
-    ensures { OnOk result (string_bytes out.new ≡ string_bytes out.old ++ runs_text K.Kind.numbers first runs.now) }
-{
-    for (i, run) in runs.iter().enumerate() {
-        put_run::<K>(out, first + i, run)?;
+impl<'a, K: Kind> fmt::Display for PointLines<'a, K> {
+    ghost output = { λ lines. Some (point_line lines.point (length lines.runs.now) ++ runs_text K.Kind.numbers lines.first lines.runs.now) };
+
+    fn fmt<W: fmt::Write>(&self, f: &mut fmt::Formatter<W>) -> fmt::Result {
+        write!(f, "point {} {}\n", self.point, self.runs.len())?;
+        for (i, run) in self.runs.iter().enumerate() {
+            let number = self.first + i;
+            write!(f, "{}", RunLine::<K> { number, run })?;
+        }
+        Ok(())
     }
-    Ok(())
 }
 
 // A run: its number, its head and the three numbers of its weight.
-fn put_run<K: Kind>(out: &mut String, number: usize, run: &Run<K::Weight>) -> Result<(), AllocError>
-    ensures { OnOk result (string_bytes out.new ≡ string_bytes out.old ++ run_text K.Kind.numbers number run.now) }
-{
-    let head = run.head;
-    let [a, b, c] = K::numbers(run.weight);
-    write!(out, "{number} {head} {a} {b} {c}\n")
+#[derive(Drop)]
+struct RunLine<'a, K: Kind> {
+    number: usize,
+    run: &'a Run<K::Weight>,
+}
+
+impl<'a, K: Kind> fmt::Display for RunLine<'a, K> {
+    ghost output = { λ line. Some (run_text K.Kind.numbers line.number line.run.now) };
+
+    fn fmt<W: fmt::Write>(&self, f: &mut fmt::Formatter<W>) -> fmt::Result {
+        let [a, b, c] = K::numbers(self.run.weight);
+        write!(f, "{} {} {a} {b} {c}\n", self.number, self.run.head)
+    }
 }
