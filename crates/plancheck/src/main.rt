@@ -8,13 +8,8 @@ use std::{fs, io};
 // The bytes of plan.bay; a missing file is read as empty.
 fn plan_bytes(rt: &HostRuntime) -> io::Result<Vec<u8>> {
     match fs::read(rt, "plan.bay") {
-        Ok(bytes) => Ok(bytes),
-        Err(e) => {
-            if e.kind() == ErrorKind::NotFound {
-                return Ok(Vec::new(rt.alloc()));
-            }
-            Err(e)
-        }
+        Err(e) if e.kind() == ErrorKind::NotFound => Ok(Vec::new(rt.alloc())),
+        read => read,
     }
 }
 
