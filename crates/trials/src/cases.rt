@@ -1,12 +1,13 @@
 // What the trials share: runs as lines of numbers, rows of faults, and the bytes of plan files.
 use fault::Fault;
-use gauge::pair::PairCost;
+use gauge::pair::Pair;
 use std::alloc::{AllocError, Global};
 use std::test::Fail;
 
 // A run: its tail, its head and the three numbers of its weight.
 pub(crate) type Line = (u16, u16, [u32; 3]);
 
+// The kinds as numbers, as a file has them: tests write files by hand, also with numbers that no kind has.
 pub(crate) const CABLE: u16 = 1;
 
 pub(crate) const DRIVE: u16 = 2;
@@ -29,16 +30,17 @@ pub(crate) const LEVEL_C: [Line; 5] = [
 // The layer, number and place of a fault.
 pub(crate) type Row = (u8, u8, usize);
 
-pub(crate) fn seen(fault: Fault) -> Row {
-    (fault.layer, fault.number, fault.place)
+pub(crate) fn fault((layer, number, place): Row) -> Fault {
+    Fault {
+        layer,
+        number,
+        place,
+    }
 }
 
-// What is to be answered: these counts, or the refusal.
-pub(crate) fn wanted(counts: (usize, usize), refusal: Option<Row>) -> Result<(usize, usize), Row> {
-    match refusal {
-        None => Ok(counts),
-        Some(row) => Err(row),
-    }
+// What is to be answered: a value, or the refusal.
+pub(crate) fn wanted<T: Copy>(value: T, refusal: Option<Row>) -> Result<T, Fault> {
+    refusal.map_or(Ok(value), |row| Err(fault(row)))
 }
 
 // The first six bytes of a file: points, runs and kind.
@@ -66,11 +68,16 @@ pub(crate) fn file(heap: Global, points: u16, kind: u16, lines: &[Line]) -> Resu
     Ok(bytes)
 }
 
-// A cable cost of three numbers.
-pub(crate) fn cable_cost([a, b, c]: [u32; 3]) -> PairCost<u32, PairCost<u32, u32>> {
-    let second = PairCost {
-        first: b,
-        second: c,
+// A cost or a weight of three parts.
+pub(crate) fn three<A, B, C>((first, second, third): (A, B, C)) -> Pair<A, Pair<B, C>> {
+    let second = Pair {
+        first: second,
+        second: third,
     };
-    PairCost { first: a, second }
+    Pair { first, second }
+}
+
+// A cable cost of three numbers.
+pub(crate) fn cable_cost([a, b, c]: [u32; 3]) -> Pair<u32, Pair<u32, u32>> {
+    three((a, b, c))
 }

@@ -1,6 +1,6 @@
 // Plan files: which are refused, and what the run table holds after.
-use crate::cases::{CABLE, DRIVE, LEVEL_C, Line, ONES, Row, WIDEST, file, head, seen, wanted};
-use fault::FileFault;
+use crate::cases::{CABLE, DRIVE, LEVEL_C, Line, ONES, Row, WIDEST, file, head, wanted};
+use fault::Fault;
 use gauge::house::{Cable, Drive};
 use plan::Run;
 use planfile::{Header, Kind};
@@ -94,12 +94,8 @@ const MARK: Line = (9, 8, [7, 6, 5]);
 
 fn marked<K: Kind>(heap: Global, room: usize) -> Result<Vec<Run<K::Weight>>, Fail> {
     let (tail, head, [a, b, c]) = MARK;
-    let Ok(weight) = K::weigh(a, b, c) else {
-        return Err(Fail::new("the mark"));
-    };
-    let mut table = Vec::new(heap);
-    table.resize(room, Run { tail, head, weight })?;
-    Ok(table)
+    let weight = K::weigh(a, b, c).ok().ok_or("the mark")?;
+    Ok(vec![in heap; Run { tail, head, weight }; room]?)
 }
 
 // The table holds these runs, and then marks.
@@ -114,37 +110,39 @@ fn check_table<K: Kind>(rt: &impl Abort, case: &str, table: &[Run<K::Weight>], l
     }
 }
 
-fn answer(res: Result<Header, FileFault>) -> Result<(usize, usize), Row> {
-    match res {
-        Ok(header) => Ok((header.points, header.runs)),
-        Err(fault) => Err(seen(fault.row())),
-    }
-}
-
-// Reading is refused and leaves the marks, or fills the first places with these runs.
-fn check_read<K: Kind>(
-    rt: &impl Abort,
-    heap: Global,
-    case: &str,
-    bytes: &[u8],
+// A file that is read into a table of so many places, and the counts and runs that it states, or its refusal.
+#[derive(Drop)]
+struct Reading<'a> {
+    case: &'a str,
+    bytes: &'a [u8],
     room: usize,
     points: usize,
-    lines: &[Line],
+    lines: &'a [Line],
     refusal: Option<Row>,
-) -> Result<(), Fail> {
-    let mut table = marked::<K>(heap, room)?;
-    let got = answer(planfile::read::<K>(bytes, table.as_mut_slice()));
-    assert_eq!(rt; got, wanted((points, lines.len()), refusal), "{case}");
-    if refusal.is_none() {
-        check_table::<K>(rt, case, table.as_slice(), lines);
-    } else {
-        check_table::<K>(rt, case, table.as_slice(), &[]);
+}
+
+impl Reading<'_> {
+    // Reading is refused and leaves the marks, or fills the first places with these runs.
+    fn check<K: Kind>(&self, rt: &impl Abort, heap: Global) -> Result<(), Fail> {
+        let mut table = marked::<K>(heap, self.room)?;
+        let got = planfile::read::<K>(self.bytes, table.as_mut_slice()).map_err(Fault::from);
+        let header = Header {
+            points: self.points,
+            runs: self.lines.len(),
+        };
+        let case = self.case;
+        assert_eq!(rt; got, wanted(header, self.refusal), "{case}");
+        if self.refusal.is_none() {
+            check_table::<K>(rt, case, table.as_slice(), self.lines);
+        } else {
+            check_table::<K>(rt, case, table.as_slice(), &[]);
+        }
+        Ok(())
     }
-    Ok(())
 }
 
 fn check_counts<K: Kind>(rt: &impl Abort, heap: Global, cases: &[Counts]) -> Result<(), Fail> {
-    for (counts, size, room, want) in cases {
+    for (counts, size, room, refusal) in cases {
         let [points, runs, kind] = *counts;
         let mut bytes = head(heap, *counts)?;
         bytes.resize(*size, 0)?;
@@ -152,16 +150,15 @@ fn check_counts<K: Kind>(rt: &impl Abort, heap: Global, cases: &[Counts]) -> Res
         let case = format!(in heap;
             "{points} points, {runs} runs, kind {kind}, {size} bytes, {room} places"
         )?;
-        check_read::<K>(
-            rt,
-            heap,
-            case.as_str(),
-            bytes.as_slice(),
-            *room,
-            usize::from(points),
-            lines.as_slice(),
-            *want,
-        )?;
+        let reading = Reading {
+            case: case.as_str(),
+            bytes: bytes.as_slice(),
+            room: *room,
+            points: usize::from(points),
+            lines: lines.as_slice(),
+            refusal: *refusal,
+        };
+        reading.check::<K>(rt, heap)?;
     }
     Ok(())
 }
@@ -173,23 +170,22 @@ fn check_weights<K: Kind>(
     kind: u16,
     cases: &[Weights],
 ) -> Result<(), Fail> {
-    for (weights, want) in cases {
+    for (weights, refusal) in cases {
         let mut lines = Vec::new(heap);
         for weight in *weights {
             lines.push((259, 772, *weight))?;
         }
         let bytes = file(heap, 5, kind, lines.as_slice())?;
         let case = format!(in heap; "{weights:?}")?;
-        check_read::<K>(
-            rt,
-            heap,
-            case.as_str(),
-            bytes.as_slice(),
-            4,
-            5,
-            lines.as_slice(),
-            *want,
-        )?;
+        let reading = Reading {
+            case: case.as_str(),
+            bytes: bytes.as_slice(),
+            room: 4,
+            points: 5,
+            lines: lines.as_slice(),
+            refusal: *refusal,
+        };
+        reading.check::<K>(rt, heap)?;
     }
     Ok(())
 }
@@ -210,36 +206,22 @@ fn weights_are_refused_run_by_run_and_part_by_part(rt: HostRuntime) -> Result<()
 fn the_first_places_are_filled_and_the_others_stay(rt: HostRuntime) -> Result<(), Fail> {
     let heap = rt.alloc();
     let bytes = file(heap, 5, CABLE, &LEVEL_C)?;
-    check_read::<Cable>(
-        &rt,
-        heap,
-        "as many places as runs",
-        bytes.as_slice(),
-        5,
-        5,
-        &LEVEL_C,
-        None,
-    )?;
-    check_read::<Cable>(
-        &rt,
-        heap,
-        "more places",
-        bytes.as_slice(),
-        8,
-        5,
-        &LEVEL_C,
-        None,
-    )?;
-    check_read::<Cable>(
-        &rt,
-        heap,
-        "one place too few",
-        bytes.as_slice(),
-        4,
-        5,
-        &LEVEL_C,
-        Some((1, 6, 5)),
-    )
+    for (case, room, refusal) in [
+        ("as many places as runs", 5, None),
+        ("more places", 8, None),
+        ("one place too few", 4, Some((1, 6, 5))),
+    ] {
+        let reading = Reading {
+            case,
+            bytes: bytes.as_slice(),
+            room,
+            points: 5,
+            lines: &LEVEL_C,
+            refusal,
+        };
+        reading.check::<Cable>(&rt, heap)?;
+    }
+    Ok(())
 }
 
 #[test]
@@ -247,24 +229,19 @@ fn a_short_table_is_told_before_an_unmeasured_weight(rt: HostRuntime) -> Result<
     let heap = rt.alloc();
     let lines = [(0, 0, [ONES, 0, 0]), (0, 0, [0, 0, 0])];
     let bytes = file(heap, 1, CABLE, &lines)?;
-    check_read::<Cable>(
-        &rt,
-        heap,
-        "a short table",
-        bytes.as_slice(),
-        1,
-        1,
-        &lines,
-        Some((1, 6, 2)),
-    )?;
-    check_read::<Cable>(
-        &rt,
-        heap,
-        "a long enough table",
-        bytes.as_slice(),
-        2,
-        1,
-        &lines,
-        Some((1, 7, 0)),
-    )
+    for (case, room, refusal) in [
+        ("a short table", 1, (1, 6, 2)),
+        ("a long enough table", 2, (1, 7, 0)),
+    ] {
+        let reading = Reading {
+            case,
+            bytes: bytes.as_slice(),
+            room,
+            points: 1,
+            lines: &lines,
+            refusal: Some(refusal),
+        };
+        reading.check::<Cable>(&rt, heap)?;
+    }
+    Ok(())
 }

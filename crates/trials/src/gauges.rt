@@ -1,11 +1,13 @@
 // Gauges: the cost after a run, and how two costs compare.
-use crate::cases::{ONES, WIDEST, cable_cost};
+use crate::cases::{ONES, WIDEST, cable_cost, three};
 use gauge::Gauge;
 use gauge::house::{Cable, Drive, cable_at, drive_at, widest_cable, widest_drive};
-use gauge::pair::{PairCost, PairWeight};
+use gauge::pair::Pair;
 use gauge::set::Set;
 use gauge::sum::Sum;
 use gauge::worst::Worst;
+use std::fmt::Debug;
+use std::process::Abort;
 use std::test::Fail;
 
 // A limit, a cost, the weight of a run, and the cost after it.
@@ -68,19 +70,24 @@ const SET_ORDERS: [(u32, u32, bool, bool); 10] = [
     (ONES, 2147483648, false, false),
 ];
 
+// The parts of a cost or a weight of each kind.
+type Three = (u32, u32, u32);
+
+type Ramped = (u32, u8, u32);
+
 // A cost, the weight of a run, and the cost after it, at the limits 10, 3 and 5.
-const CABLES: [([u32; 3], [u32; 3], Option<[u32; 3]>); 8] = [
-    ([0, 0, 0], [0, 0, 0], Some([0, 0, 0])),
-    ([0, 0, 0], [10, 3, 5], Some([10, 3, 5])),
-    ([4, 1, 1], [6, 2, 4], Some([10, 3, 5])),
-    ([4, 1, 1], [0, 0, 1], Some([4, 1, 1])),
-    ([4, 1, 1], [7, 0, 0], None),
-    ([4, 1, 1], [0, 3, 0], None),
-    ([4, 1, 1], [0, 0, 2], None),
-    ([4, 1, 1], [7, 3, 2], None),
+const CABLES: [(Three, Three, Option<Three>); 8] = [
+    ((0, 0, 0), (0, 0, 0), Some((0, 0, 0))),
+    ((0, 0, 0), (10, 3, 5), Some((10, 3, 5))),
+    ((4, 1, 1), (6, 2, 4), Some((10, 3, 5))),
+    ((4, 1, 1), (0, 0, 1), Some((4, 1, 1))),
+    ((4, 1, 1), (7, 0, 0), None),
+    ((4, 1, 1), (0, 3, 0), None),
+    ((4, 1, 1), (0, 0, 2), None),
+    ((4, 1, 1), (7, 3, 2), None),
 ];
 
-const DRIVES: [((u32, u8, u32), (u32, u8, u32), Option<(u32, u8, u32)>); 7] = [
+const DRIVES: [(Ramped, Ramped, Option<Ramped>); 7] = [
     ((0, 0, 0), (10, 3, 5), Some((10, 3, 5))),
     ((4, 2, 1), (6, 3, 4), Some((10, 3, 5))),
     ((4, 2, 1), (1, 1, 1), Some((5, 2, 2))),
@@ -104,32 +111,22 @@ const CABLE_ORDERS: [([u32; 3], [u32; 3], bool, bool); 10] = [
     ([0, 0, 8], [1, 1, 1], false, true),
 ];
 
-fn cable_along(gauge: &Cable, cost: [u32; 3], [a, b, c]: [u32; 3]) -> Option<[u32; 3]> {
-    let second = PairWeight {
-        first: b,
-        second: c,
-    };
-    let weight = PairWeight { first: a, second };
-    let after = gauge.along(cable_cost(cost), weight)?;
-    Some([after.first, after.second.first, after.second.second])
+// Of two costs, whether the first is no worse, and whether it comes before.
+fn check_order<G: Gauge>(rt: &impl Abort, a: G::Cost, b: G::Cost, (no_worse, before): (bool, bool))
+where
+    G::Cost: Debug,
+{
+    assert_eq!(rt; G::no_worse(a, b), no_worse, "{a:?} no worse than {b:?}");
+    assert_eq!(rt; G::before(a, b), before, "{a:?} before {b:?}");
 }
 
-fn drive_along(
-    gauge: &Drive,
-    (a, b, c): (u32, u8, u32),
-    (d, e, f): (u32, u8, u32),
-) -> Option<(u32, u8, u32)> {
-    let second = PairCost {
-        first: b,
-        second: c,
-    };
-    let cost = PairCost { first: a, second };
-    let second = PairWeight {
-        first: e,
-        second: f,
-    };
-    let weight = PairWeight { first: d, second };
-    let after = gauge.along(cost, weight)?;
+// The three parts of a cost after a run.
+fn along_three<A: Gauge, B: Gauge, C: Gauge>(
+    gauge: &Pair<A, Pair<B, C>>,
+    cost: (A::Cost, B::Cost, C::Cost),
+    weight: (A::Weight, B::Weight, C::Weight),
+) -> Option<(A::Cost, B::Cost, C::Cost)> {
+    let after = gauge.along(three(cost), three(weight))?;
     Some((after.first, after.second.first, after.second.second))
 }
 
@@ -164,11 +161,8 @@ fn the_greater_class_is_kept_up_to_its_limit(rt: HostRuntime) -> Result<(), Fail
 #[test]
 fn totals_and_classes_compare_as_numbers(rt: HostRuntime) {
     for (a, b, no_worse, before) in ORDERS {
-        let (c, d) = (u32::from(a), u32::from(b));
-        assert_eq!(rt; Sum::no_worse(c, d), no_worse, "{c} no worse than {d}");
-        assert_eq!(rt; Sum::before(c, d), before, "{c} before {d}");
-        assert_eq!(rt; Worst::no_worse(a, b), no_worse, "{a} no worse than {b}");
-        assert_eq!(rt; Worst::before(a, b), before, "{a} before {b}");
+        check_order::<Sum>(&rt, u32::from(a), u32::from(b), (no_worse, before));
+        check_order::<Worst>(&rt, a, b, (no_worse, before));
     }
 }
 
@@ -182,8 +176,7 @@ fn sets_unite_within_the_allowed_set_and_compare(rt: HostRuntime) {
         );
     }
     for (a, b, no_worse, before) in SET_ORDERS {
-        assert_eq!(rt; Set::no_worse(a, b), no_worse, "{a} no worse than {b}");
-        assert_eq!(rt; Set::before(a, b), before, "{a} before {b}");
+        check_order::<Set>(&rt, a, b, (no_worse, before));
     }
 }
 
@@ -194,7 +187,7 @@ fn a_house_cost_goes_along_in_all_its_parts_or_in_none(rt: HostRuntime) -> Resul
     };
     for (cost, weight, want) in CABLES {
         assert_eq!(rt;
-            cable_along(&cable, cost, weight),
+            along_three(&cable, cost, weight),
             want,
             "cable {cost:?} along {weight:?}"
         );
@@ -204,7 +197,7 @@ fn a_house_cost_goes_along_in_all_its_parts_or_in_none(rt: HostRuntime) -> Resul
     };
     for (cost, weight, want) in DRIVES {
         assert_eq!(rt;
-            drive_along(&drive, cost, weight),
+            along_three(&drive, cost, weight),
             want,
             "drive {cost:?} along {weight:?}"
         );
@@ -214,29 +207,19 @@ fn a_house_cost_goes_along_in_all_its_parts_or_in_none(rt: HostRuntime) -> Resul
 
 #[test]
 fn the_widest_limits_let_the_greatest_weights_through(rt: HostRuntime) {
-    let start = Cable::start();
-    let origin = [start.first, start.second.first, start.second.second];
-    assert_eq!(rt; origin, [0, 0, 0]);
-    let most = [WIDEST, WIDEST, ONES];
-    assert_eq!(rt; cable_along(&widest_cable(), origin, most), Some(most));
-    assert_eq!(rt; cable_along(&widest_cable(), most, [0, 1, 0]), None);
+    let origin = (0, 0, 0);
+    assert_eq!(rt; Cable::start(), three(origin));
+    let most = (WIDEST, WIDEST, ONES);
+    assert_eq!(rt; along_three(&widest_cable(), origin, most), Some(most));
+    assert_eq!(rt; along_three(&widest_cable(), most, (0, 1, 0)), None);
     let most = (WIDEST, 15, WIDEST);
-    assert_eq!(rt; drive_along(&widest_drive(), (0, 0, 0), most), Some(most));
-    assert_eq!(rt; drive_along(&widest_drive(), most, (0, 0, 1)), None);
+    assert_eq!(rt; along_three(&widest_drive(), (0, 0, 0), most), Some(most));
+    assert_eq!(rt; along_three(&widest_drive(), most, (0, 0, 1)), None);
 }
 
 #[test]
 fn cable_costs_compare_by_the_first_part_that_differs(rt: HostRuntime) {
     for (a, b, no_worse, before) in CABLE_ORDERS {
-        assert_eq!(rt;
-            Cable::no_worse(cable_cost(a), cable_cost(b)),
-            no_worse,
-            "{a:?} no worse than {b:?}"
-        );
-        assert_eq!(rt;
-            Cable::before(cable_cost(a), cable_cost(b)),
-            before,
-            "{a:?} before {b:?}"
-        );
+        check_order::<Cable>(&rt, cable_cost(a), cable_cost(b), (no_worse, before));
     }
 }

@@ -42,6 +42,7 @@ impl<G: Gauge, Q: Queue<G>> Queue<G> for Owner<Q> {
     }
 }
 
+// Beside Owner and not one form for both: that a queue held either way makes a layer is what is tried.
 #[derive(Drop)]
 pub(crate) struct Borrower<'a, Q> {
     pub(crate) inner: &'a mut Q,

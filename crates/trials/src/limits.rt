@@ -1,6 +1,6 @@
 // Limits of the house's gauges.
-use crate::cases::{ONES, Row, WIDEST, seen};
-use fault::LimitFault;
+use crate::cases::{ONES, Row, WIDEST, fault};
+use fault::Fault;
 use gauge::house::{cable_at, drive_at};
 
 // Three limits, and the refusal that they meet.
@@ -33,20 +33,20 @@ const DRIVES: [Case; 12] = [
     ([ONES, 0, ONES], Some((3, 11, 0))),
 ];
 
-// The row of a refusal.
-fn refusal<G: Copy>(made: Result<G, LimitFault>) -> Option<Row> {
-    match made {
-        Ok(_) => None,
-        Err(fault) => Some(seen(fault.row())),
-    }
-}
-
 #[test]
 fn the_first_limit_out_of_range_is_told(rt: HostRuntime) {
     for (limits, want) in CABLES {
-        assert_eq!(rt; refusal(cable_at(limits)), want, "cable {limits:?}");
+        assert_eq!(rt;
+            cable_at(limits).err().map(Fault::from),
+            want.map(fault),
+            "cable {limits:?}"
+        );
     }
     for (limits, want) in DRIVES {
-        assert_eq!(rt; refusal(drive_at(limits)), want, "drive {limits:?}");
+        assert_eq!(rt;
+            drive_at(limits).err().map(Fault::from),
+            want.map(fault),
+            "drive {limits:?}"
+        );
     }
 }

@@ -1,6 +1,6 @@
 // Plans: which are refused, and the runs that leave a point.
-use crate::cases::{LEVEL_C, Row, seen, wanted};
-use fault::PlanFault;
+use crate::cases::{LEVEL_C, Row, fault, wanted};
+use fault::Fault;
 use plan::{Plan, Run};
 use std::alloc::{AllocError, Global};
 use std::process::Abort;
@@ -68,32 +68,6 @@ fn table(heap: Global, ends: &[Ends]) -> Result<Vec<Run<usize>>, AllocError> {
     Ok(runs)
 }
 
-// What a plan counts: its points and its runs.
-// This and the next two are generic in the weight: the checker does not cover making a plan at a concrete one.
-fn counts<W: Copy>(points: usize, runs: &[Run<W>]) -> Result<(usize, usize), PlanFault> {
-    let plan = Plan::new(points, runs)?;
-    Ok((plan.points(), plan.runs().len()))
-}
-
-// The number of the first run from a point on.
-fn first_from<W: Copy>(points: usize, runs: &[Run<W>], point: usize) -> Result<usize, PlanFault> {
-    let plan = Plan::new(points, runs)?;
-    Ok(plan.first_from(point))
-}
-
-// The runs that leave a point.
-fn leaving<W: Copy>(points: usize, runs: &[Run<W>], point: usize) -> Result<&[Run<W>], PlanFault> {
-    let plan = Plan::new(points, runs)?;
-    plan.leaving(point)
-}
-
-fn answer<T: Drop>(res: Result<T, PlanFault>) -> Result<T, Row> {
-    match res {
-        Ok(value) => Ok(value),
-        Err(fault) => Err(seen(fault.row())),
-    }
-}
-
 fn check_counts(
     rt: &impl Abort,
     case: &str,
@@ -101,8 +75,9 @@ fn check_counts(
     runs: &[Run<usize>],
     refusal: Option<Row>,
 ) {
+    let got = Plan::new(points, runs).map(|plan| (plan.points(), plan.runs().len()));
     let want = wanted((points, runs.len()), refusal);
-    assert_eq!(rt; answer(counts(points, runs)), want, "{case}");
+    assert_eq!(rt; got.map_err(Fault::from), want, "{case}");
 }
 
 // The runs that leave each point, and the refusal of what is no point.
@@ -112,28 +87,19 @@ fn check_leaving(
     runs: &[Run<usize>],
     cases: &[Leaving],
 ) -> Result<(), Fail> {
+    let plan = Plan::new(points, runs).map_err(Fault::from)?;
     for (point, first, want) in cases {
-        assert_eq!(rt;
-            answer(first_from(points, runs, *point)),
-            Ok(*first),
-            "from {point}"
-        );
-        let part = answer(leaving(points, runs, *point))?;
+        assert_eq!(rt; plan.first_from(*point), *first, "from {point}");
+        let part = plan.leaving(*point).map_err(Fault::from)?;
         assert_eq!(rt; part.len(), want.len(), "leaving {point}");
         for (run, number) in part.iter().zip(want.iter()) {
             assert_eq!(rt; run.weight, *number, "leaving {point}");
         }
     }
     for point in [points, usize::MAX] {
-        assert_eq!(rt;
-            answer(first_from(points, runs, point)),
-            Ok(runs.len()),
-            "from {point}"
-        );
-        assert!(rt;
-            answer(leaving(points, runs, point)).err() == Some((2, 17, point)),
-            "leaving {point}"
-        );
+        assert_eq!(rt; plan.first_from(point), runs.len(), "from {point}");
+        let refused = plan.leaving(point).err().map(Fault::from);
+        assert_eq!(rt; refused, Some(fault((2, 17, point))), "leaving {point}");
     }
     Ok(())
 }

@@ -5,9 +5,11 @@ use gauge::Gauge;
 use gauge::house::Cable;
 use gauge::sum::Sum;
 use queue::{Entry, Heap, Held, Queue, Row, Slot};
+use std::alloc::{AllocError, Global};
 use std::process::Abort;
 
-// A call of a queue. A put names its cost by a place in a table of costs.
+// A call of a queue. A put names its cost by a place in a table of costs. An enum: the same call is made of two queues of different
+// types, and a closure takes one type.
 #[derive(Clone, Copy)]
 enum Call {
     Clear,
@@ -17,38 +19,16 @@ enum Call {
     Take,
 }
 
-// Whether two costs are the same: each is no worse than the other.
-fn same_cost<G: Gauge>(a: &Entry<G::Cost>, b: &Entry<G::Cost>) -> bool {
-    G::no_worse(a.cost, b.cost) && G::no_worse(b.cost, a.cost)
-}
-
-fn same_entry<G: Gauge>(a: &Entry<G::Cost>, b: &Entry<G::Cost>) -> bool {
-    same_cost::<G>(a, b) && a.from == b.from && a.run == b.run
-}
-
-fn same_found<G: Gauge>(a: Option<Entry<G::Cost>>, b: Option<Entry<G::Cost>>) -> bool {
-    match (a, b) {
-        (None, None) => true,
-        (Some(a), Some(b)) => same_entry::<G>(&a, &b),
-        _ => false,
-    }
-}
-
-fn same_first<G: Gauge>(a: Option<Held<G::Cost>>, b: Option<Held<G::Cost>>) -> bool {
-    match (a, b) {
-        (None, None) => true,
-        (Some(a), Some(b)) => a.point == b.point && same_entry::<G>(&a.entry, &b.entry),
-        _ => false,
-    }
-}
-
 // Makes the same call of two queues. Answers whether they answered the same.
 fn answer_alike<G: Gauge, A: Queue<G>, B: Queue<G>>(
     a: &mut A,
     b: &mut B,
     call: Call,
     costs: &[G::Cost],
-) -> bool {
+) -> bool
+where
+    G::Cost: PartialEq,
+{
     match call {
         Call::Clear => {
             a.clear();
@@ -66,9 +46,9 @@ fn answer_alike<G: Gauge, A: Queue<G>, B: Queue<G>>(
             };
             a.put(point, &entry) == b.put(point, &entry)
         }
-        Call::Find(point) => same_found::<G>(a.find(point), b.find(point)),
-        Call::Look => same_first::<G>(a.look(), b.look()),
-        Call::Take => same_first::<G>(a.take(), b.take()),
+        Call::Find(point) => a.find(point) == b.find(point),
+        Call::Look => a.look() == b.look(),
+        Call::Take => a.take() == b.take(),
     }
 }
 
@@ -102,7 +82,10 @@ fn first_unlike<G: Gauge, A: Queue<G>, B: Queue<G>>(
     costs: &[G::Cost],
     calls: usize,
     seed: u64,
-) -> Option<usize> {
+) -> Option<usize>
+where
+    G::Cost: PartialEq,
+{
     let points = a.capacity() as u64;
     let mut state = seed;
     for i in 0..calls {
@@ -147,7 +130,10 @@ fn side_by_side<G: Gauge, A: Queue<G>, B: Queue<G>>(
     costs: &[G::Cost],
     cost: G::Cost,
     seed: u64,
-) {
+)
+where
+    G::Cost: PartialEq,
+{
     let room = a.capacity();
     assert_eq!(rt; room, b.capacity(), "capacity {room}");
     assert_eq!(rt;
@@ -181,34 +167,44 @@ fn wild<C: Copy>(slots: &mut [Slot<C>], seed: u64) {
 
 const SUMS: [u32; COSTS] = [0, 1, 1, 2, 5, 5, 9, 4294967294];
 
+// A heap and a row of so many places side by side, over memory that holds anything, with one cost in all places.
+fn heap_and_row<G: Gauge>(
+    rt: &impl Abort,
+    alloc: Global,
+    room: usize,
+    costs: &[G::Cost],
+    [before, cost]: [G::Cost; 2],
+    seed: u64,
+) -> Result<(), AllocError>
+where
+    G::Cost: PartialEq,
+{
+    let entry = Entry {
+        cost: before,
+        from: Some(1),
+        run: None,
+    };
+    let held = Held { point: 0, entry };
+    let mut slots = vec![in alloc; Slot { held, place: 0 }; room]?;
+    wild(slots.as_mut_slice(), room as u64);
+    let mut places = vec![in alloc; Some(entry); room]?;
+    let mut heap: Heap<G> = Heap::new(slots.as_mut_slice());
+    let mut row: Row<G> = Row::new(places.as_mut_slice());
+    side_by_side::<G, Heap<'_, _>, Row<'_, _>>(rt, &mut heap, &mut row, costs, cost, seed);
+    Ok(())
+}
+
 #[test]
-fn heap_and_row_answer_alike_at_sums(rt: HostRuntime) {
+fn heap_and_row_answer_alike_at_sums(rt: HostRuntime) -> Result<(), AllocError> {
     for room in 0..32 {
-        let entry = Entry {
-            cost: 3u32,
-            from: Some(1),
-            run: None,
-        };
-        let held = Held { point: 0, entry };
-        let mut slots = [Slot { held, place: 0 }; 32];
-        wild(&mut slots, room as u64);
-        let mut places = [Some(entry); 32];
-        let mut heap: Heap<Sum> = Heap::new(&mut slots[..room]);
-        let mut row: Row<Sum> = Row::new(&mut places[..room]);
-        side_by_side::<Sum, Heap<'_, _>, Row<'_, _>>(
-            &rt,
-            &mut heap,
-            &mut row,
-            &SUMS,
-            4,
-            room as u64,
-        );
+        heap_and_row::<Sum>(&rt, rt.alloc(), room, &SUMS, [3, 4], room as u64)?;
     }
+    Ok(())
 }
 
 // Costs that tie in the first part, in the first two, or in all.
 #[test]
-fn heap_and_row_answer_alike_at_cables(rt: HostRuntime) {
+fn heap_and_row_answer_alike_at_cables(rt: HostRuntime) -> Result<(), AllocError> {
     let costs = [
         cable_cost([0, 0, 0]),
         cable_cost([10, 1, 2]),
@@ -219,27 +215,12 @@ fn heap_and_row_answer_alike_at_cables(rt: HostRuntime) {
         cable_cost([25, 1, 6]),
         cable_cost([4294967294, 0, 0]),
     ];
-    let entry = Entry {
-        cost: cable_cost([7, 7, 7]),
-        from: Some(1),
-        run: None,
-    };
+    let cost = cable_cost([7, 7, 7]);
     for room in [1, 5, 13, 32] {
-        let held = Held { point: 0, entry };
-        let mut slots = [Slot { held, place: 0 }; 32];
-        wild(&mut slots, room as u64);
-        let mut places = [Some(entry); 32];
-        let mut heap: Heap<Cable> = Heap::new(&mut slots[..room]);
-        let mut row: Row<Cable> = Row::new(&mut places[..room]);
-        side_by_side::<Cable, Heap<'_, _>, Row<'_, _>>(
-            &rt,
-            &mut heap,
-            &mut row,
-            &costs,
-            entry.cost,
-            1000 + room as u64,
-        );
+        let seed = 1000 + room as u64;
+        heap_and_row::<Cable>(&rt, rt.alloc(), room, &costs, [cost, cost], seed)?;
     }
+    Ok(())
 }
 
 // Layers over heap and row answer as these do.
@@ -262,8 +243,7 @@ fn a_layer_over_a_queue_is_a_queue(rt: HostRuntime) {
 
 // A point and the cost of its entry.
 fn seen(held: Option<Held<u32>>) -> Option<(u16, u32)> {
-    let held = held?;
-    Some((held.point, held.entry.cost))
+    held.map(|held| (held.point, held.entry.cost))
 }
 
 fn put<Q: Queue<Sum>>(queue: &mut Q, point: u16, cost: u32) -> Result<(), u16> {
@@ -278,8 +258,7 @@ fn put<Q: Queue<Sum>>(queue: &mut Q, point: u16, cost: u32) -> Result<(), u16> {
 }
 
 fn cost_of<Q: Queue<Sum>>(queue: &Q, point: u16) -> Option<u32> {
-    let entry = queue.find(point)?;
-    Some(entry.cost)
+    queue.find(point).map(|entry| entry.cost)
 }
 
 // Calls of a queue of four points, with the answers written by hand.
