@@ -4,7 +4,7 @@ ghost use Rattle.fault.specs.Rows.{file_row};
 use crate::row::Fault;
 
 // Why reading a plan file is refused (layer 1).
-#[derive(Clone, Copy)]
+#[derive(Clone, Copy, Debug, PartialEq, Eq)]
 pub enum FileFault {
     // Fewer bytes than the counts ask for; the bytes given.
     Short(usize),

@@ -4,7 +4,7 @@ ghost use Rattle.fault.specs.Rows.{limit_row};
 use crate::row::Fault;
 
 // Why setting limits is refused (layer 3).
-#[derive(Clone, Copy)]
+#[derive(Clone, Copy, Debug, PartialEq, Eq)]
 pub enum LimitFault {
     // A limit is out of its range; the part that it limits, from 0.
     Limit(usize),

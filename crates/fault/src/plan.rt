@@ -4,7 +4,7 @@ ghost use Rattle.fault.specs.Rows.{plan_row};
 use crate::row::Fault;
 
 // Why making or asking a plan is refused (layer 2).
-#[derive(Clone, Copy)]
+#[derive(Clone, Copy, Debug, PartialEq, Eq)]
 pub enum PlanFault {
     // The number of points is out of range; that number.
     Points(usize),
