@@ -39,10 +39,11 @@ pub fn drive_weight(decimetres: u32, ramp: u8, crossings: u32) -> DriveWeight
 pub fn cable_at(limits: [u32; 3]) -> Result<Cable, LimitFault>
     ensures { result ≡ cable_at (slice_index limits 0) (slice_index limits 1) (slice_index limits 2) }
 {
+    let [decimetres, drillings, zones] = limits;
     made(
-        Sum::new(limits[0]),
-        Sum::new(limits[1]),
-        Some(Set::new(limits[2])),
+        Sum::new(decimetres),
+        Sum::new(drillings),
+        Some(Set::new(zones)),
     )
 }
 
@@ -50,11 +51,8 @@ pub fn cable_at(limits: [u32; 3]) -> Result<Cable, LimitFault>
 pub fn drive_at(limits: [u32; 3]) -> Result<Drive, LimitFault>
     ensures { result ≡ drive_at (slice_index limits 0) (slice_index limits 1) (slice_index limits 2) }
 {
-    made(
-        Sum::new(limits[0]),
-        Worst::new(limits[1]),
-        Sum::new(limits[2]),
-    )
+    let [decimetres, ramp, crossings] = limits;
+    made(Sum::new(decimetres), Worst::new(ramp), Sum::new(crossings))
 }
 
 // The gauge of three parts, or the first part that its limit did not make.

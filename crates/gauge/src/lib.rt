@@ -37,7 +37,7 @@ pub trait Gauge {
     fn no_worse(a: Self::Cost, b: Self::Cost) -> bool
         ensures { result ≡ no_worse a b };
 
-    // A function of the gauge, as the other three are, and not an Ord of its costs: numbers are costs of several gauges.
+    // A function of the gauge, as the other three are: an Ord of its costs would be asked of each gauge besides.
     fn before(a: Self::Cost, b: Self::Cost) -> bool
         ensures { result ≡ earlier a b };
 

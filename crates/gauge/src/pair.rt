@@ -5,7 +5,7 @@ ghost use Rattle.gauge.specs.LawProofs.Pairing.{compares_pairs, carries_pairs};
 use crate::Gauge;
 
 // Two things as one: two gauges, and under them a cost for each or a weight for each.
-#[derive(Clone, Copy, Debug, PartialEq, Eq)]
+#[derive(Clone, Copy, Debug, Default, PartialEq, Eq)]
 pub struct Pair<A, B> {
     pub first: A,
     pub second: B,
@@ -66,9 +66,7 @@ impl<A: Gauge, B: Gauge> Gauge for Pair<A, B> {
         ensures result { result ≡ lexical (A.Gauge.earlier a.first b.first) (A.Gauge.earlier b.first a.first) (B.Gauge.earlier a.second b.second) }
         ensures order { Decides result (Ahead A.Gauge.earlier B.Gauge.earlier a b) }
     {
-        if A::before(a.first, b.first) {
-            return true;
-        }
-        !A::before(b.first, a.first) && B::before(a.second, b.second)
+        // The parts' orders are functions of their gauges, so a pair's is made of them and not derived.
+        A::before(a.first, b.first) || !A::before(b.first, a.first) && B::before(a.second, b.second)
     }
 }

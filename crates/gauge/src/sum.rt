@@ -54,6 +54,7 @@ impl Gauge for Sum {
     }
 
     fn along(&self, cost: u32, weight: u32) -> Option<u32> {
+        // Read first: only then is it known to be below the numbers that do not fit.
         let limit = self.limit;
         let total = cost.checked_add(weight)?;
         (total <= limit).then_some(total)

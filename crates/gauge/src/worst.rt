@@ -5,8 +5,8 @@ ghost use Rattle.gauge.specs.LawProofs.Numbers.{compares_totals, carries_worsts}
 
 use crate::Gauge;
 
-// Keeps the greatest class met, up to a limit: the steepest ramp. What it does at a run is all that sets it apart from a Sum, but that
-// is all that a gauge is: as one type of both, the step would be a trait with two impls and its laws.
+// Keeps the greatest class met, up to a limit: the steepest ramp. It differs from a Sum in what it does at a run: as one type of both,
+// that step would be a trait with laws and two impls of its own.
 #[derive(Clone, Copy)]
 pub struct Worst {
     limit: u8,
