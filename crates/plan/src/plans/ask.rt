@@ -29,7 +29,7 @@ impl<'a, W> Plan<'a, W> {
     }
 }
 
-// Halves the part of the table that may hold the first tail not below the point.
+// The first run whose tail is not below the point, by halving. A function of its own, so that its proof stands apart.
 fn first_not_below<W>(runs: &[Run<W>], point: usize) -> usize
     requires { Ordered runs.now }
     ensures { result ≡ first_from point runs.now }
