@@ -17,8 +17,8 @@ pub(crate) struct Body<'a> {
 }
 
 impl<'a> Body<'a> {
-    // The first run whose weight is refused. A for: `?` ends it, and a refusal holds the number of its run, which a chain
-    // over chunks of the bytes would have to count beside them.
+    // The first run whose weight is refused. A for: `?` ends it, which `try_for_each` says at more length, and a refusal holds the number
+    // of its run, which a chain over chunks of the bytes would have to count beside them.
     #[tactic(auto, using(crate::proofs::Turns::done_more, crate::proofs::Turns::done_here))]
     pub(crate) fn check_weights<K: Kind>(&self) -> Result<(), FileFault>
         ensures { result ≡ done (runs_from K.Kind.weighed self.now.bytes.now self.now.runs self.now.runs 0) }

@@ -1,8 +1,5 @@
 // The gauges with plan files. A run's weight stands there as three numbers; each gauge says what they mean.
-ghost use Rattle.std.specs.Prelude.{◌≡◌, ℕ, List, refl};
-ghost use Rattle.planfile.specs.declared.plan_kind.PlanKind.{PlanKind};
-ghost use Rattle.planfile.specs.declared.plan_kind.PlanKind.TheVariants.{Cable, Drive};
-ghost use Rattle.planfile.specs.Kinds.{IsNumberOf};
+ghost use Rattle.std.specs.Prelude.{◌≡◌, ℕ, List};
 ghost use Rattle.planfile.specs.Weights.{Kept, Weighing, measured_number, class_number, cable_reading, drive_reading, three};
 ghost use Rattle.planfile.specs.File.{fault_at};
 ghost use Rattle.std.proofs.Common.{rules};
@@ -14,7 +11,7 @@ use gauge::house::{Cable, CableWeight, Drive, DriveWeight, cable_weight, drive_w
 use gauge::worst::Worst;
 
 // Why a number is no weight.
-#[derive(Clone, Copy)]
+#[derive(Clone, Copy, Debug, PartialEq, Eq)]
 pub enum WeightFault {
     // It is the mark of an unmeasured weight.
     Unmeasured,
@@ -36,9 +33,6 @@ impl WeightFault {
 
 // A gauge with plan files of its own kind.
 pub trait Kind: Gauge {
-    // Which kind it is.
-    ghost kind: { PlanKind };
-
     // The kind's number in a file.
     ghost number: { ℕ };
 
@@ -48,23 +42,15 @@ pub trait Kind: Gauge {
     // The three numbers of a weight.
     ghost numbers: { Self.Weight → List ℕ };
 
-    fn kind() -> PlanKind
-        ensures { result ≡ kind };
-
     fn number() -> u16
-        ensures { result ≡ number }
-    {
-        u16::from(Self::kind())
-    }
+        ensures { result ≡ number };
 
+    // Three numbers by name, as they stand in a file one after the other.
     fn weigh(a: u32, b: u32, c: u32) -> Result<Self::Weight, WeightFault>
         ensures { result ≡ weighed a b c };
 
     fn numbers(weight: Self::Weight) -> [u32; 3]
         ensures { result ≡ numbers weight };
-
-    // The number is that of the kind.
-    ghost numbered: { IsNumberOf kind number };
 
     // A weight has the numbers that it was read from.
     ghost kept: { Kept weighed numbers };
@@ -92,20 +78,16 @@ fn class(number: u32) -> Result<u8, WeightFault>
 }
 
 impl Kind for Cable {
-    ghost kind = { Cable };
-
     ghost number = { 1 };
 
     ghost weighed = { cable_reading };
 
     ghost numbers = { three };
 
-    ghost numbered = { refl };
-
     ghost kept = { Prim.search rules };
 
-    fn kind() -> PlanKind {
-        PlanKind::Cable
+    fn number() -> u16 {
+        u16::from(PlanKind::Cable)
     }
 
     fn weigh(a: u32, b: u32, c: u32) -> Result<CableWeight, WeightFault> {
@@ -119,22 +101,18 @@ impl Kind for Cable {
     }
 }
 
-// As for cables but in the second part, a class: both impls name their parts, which one for all would have to be told.
+// As for cables but for a class in the second part. One `numbers` for both would need a bound on each part, and be the longer.
 impl Kind for Drive {
-    ghost kind = { Drive };
-
     ghost number = { 2 };
 
     ghost weighed = { drive_reading };
 
     ghost numbers = { three };
 
-    ghost numbered = { refl };
-
     ghost kept = { Prim.search rules };
 
-    fn kind() -> PlanKind {
-        PlanKind::Drive
+    fn number() -> u16 {
+        u16::from(PlanKind::Drive)
     }
 
     fn weigh(a: u32, b: u32, c: u32) -> Result<DriveWeight, WeightFault> {

@@ -4,14 +4,14 @@ ghost use Rattle.planfile.specs.Kinds.{IsNumberOf, Numbered, word_of};
 
 use std::fmt;
 
-#[derive(Clone, Copy, PartialEq, Eq)]
+#[derive(Clone, Copy, Debug, PartialEq, Eq)]
 pub enum PlanKind {
     Cable,
     Drive,
 }
 
 // A number that no kind of plan file has.
-#[derive(Clone, Copy, PartialEq, Eq)]
+#[derive(Clone, Copy, Debug, PartialEq, Eq)]
 pub struct UnknownKind(pub u16);
 
 // The number that stands in a file.
