@@ -3,8 +3,8 @@ mod levels;
 mod sift;
 pub mod slots;
 
-ghost use Rattle.std.specs.Prelude.{◌≡◌, ℕ, ◌<◌, ◌≤◌, length, Some};
-ghost use Rattle.std.specs.Slice.{IsGetRangeResult};
+ghost use Rattle.std.specs.Prelude.{◌≡◌, ℕ, ◌<◌, ◌≤◌, length, take, Some};
+ghost use Rattle.std.specs.Slice.{IsGetRangeResult, IsItemAt};
 ghost use Rattle.queue.specs.declared.heaps.slots.Slot.{Slot};
 ghost use Rattle.queue.specs.InHeap.{Heaped, heap_entries};
 ghost use Rattle.queue.specs.Map.{after_put, after_take};
@@ -18,8 +18,10 @@ use crate::heaps::slots::Slot;
 use gauge::Gauge;
 
 // The first `used` places of the lent memory hold the entries, so that none goes before the one above it. A place also notes, for the
-// point of its own number, where that point's entry stands; a note counts only if an entry of that point does stand there. Memory that
-// was never cleared holds anything, so neither `used` nor a note is relied on before it is tested.
+// point of its own number, where that point's entry stands; a note counts only if an entry of that point does stand there.
+// A slice with a count, and places by number: a queue owns no memory and works in what it is lent. That it is a heap is a premise of
+// the clauses below and no invariant of the type: memory that was never cleared holds anything, so neither `used` nor a note is relied
+// on before it is tested.
 #[derive(Drop)]
 pub struct Heap<'a, G: Gauge> {
     slots: &'a mut [Slot<G::Cost>],
@@ -40,6 +42,13 @@ impl<'a, G: Gauge> Heap<'a, G> {
         ensures { IsGetRangeResult self.now.slots.now 0 self.now.used result }
     {
         self.slots.get(..self.used)
+    }
+
+    // The first of them.
+    fn front(&self) -> Option<&Slot<G::Cost>>
+        ensures { self.now.used ≤ length self.now.slots.now → IsItemAt (take self.now.used self.now.slots.now) 0 result }
+    {
+        self.held()?.first()
     }
 
     // Where the entry of a point stands.
@@ -115,7 +124,7 @@ impl<'a, G: Gauge> Queue<G> for Heap<'a, G> {
     }
 
     fn look(&self) -> Option<Held<G::Cost>> {
-        Some(self.held()?.first()?.held)
+        Some(self.front()?.held)
     }
 
     fn take(&mut self) -> Option<Held<G::Cost>> {

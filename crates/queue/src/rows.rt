@@ -4,7 +4,7 @@ ghost use Rattle.queue.specs.InRow.{row_entries, row_held, first_of_two};
 ghost use Rattle.queue.specs.Within.{row_within};
 
 use crate::Queue;
-use crate::entries::{Entry, Held, comes_before};
+use crate::entries::{Entry, Held};
 use gauge::Gauge;
 
 // Place p of the lent memory is that of point p. Places past the last number of 16 bits are those of no point.
@@ -83,9 +83,17 @@ fn held_in<C: Copy>(at: usize, place: Option<Entry<C>>) -> Option<Held<C>>
 fn first_of_two<G: Gauge>(first: Held<G::Cost>, next: Held<G::Cost>) -> Held<G::Cost>
     ensures { result ≡ first_of_two G.Gauge.earlier first next }
 {
-    if comes_before::<G>(&next.entry, &first.entry) {
+    if comes_before::<G>(&next, &first) {
         next
     } else {
         first
     }
+}
+
+// The cost of the first comes before that of the second. By reference: the check does not cover handing on an entry after its cost was
+// read out by value.
+fn comes_before<G: Gauge>(a: &Held<G::Cost>, b: &Held<G::Cost>) -> bool
+    ensures { result ≡ G.Gauge.earlier a.now.entry.cost b.now.entry.cost }
+{
+    G::before(a.entry.cost, b.entry.cost)
 }

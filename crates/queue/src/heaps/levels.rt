@@ -4,15 +4,17 @@ ghost use Rattle.queue.specs.InHeap.{Below};
 
 use std::ops::Range;
 
-// How many places stand right below each.
-const ARITY: usize = 2;
+// 2 to the power of this stand right below each place: the heap shifts and divides nowhere.
+const SHIFT: u32 = 1;
+
+const ARITY: usize = 1 << SHIFT;
 
 // The place right above one that is not the first.
 pub(crate) fn above(place: usize) -> usize
     requires { 0 < place }
     ensures { Below result place }
 {
-    (place - 1) >> 1
+    (place - 1) >> SHIFT
 }
 
 // The places right below one, of the first `count`.

@@ -1,22 +1,23 @@
 // Sifting: how an entry finds its place in a heap. The entry stays in hand, and others move into the gap that it leaves.
-// The memory comes lent, with the count of its entries beside it and not cut off there: places past the count keep notes of points too.
+// A heap's methods pass its lent memory to these functions, with the count of the entries beside it: the slice is not cut there, since
+// places past the count keep notes of points too.
 ghost use Rattle.std.specs.Prelude.{◌≡◌, ℕ, ◌<◌, ◌≤◌, length, Some};
 ghost use Rattle.queue.specs.declared.heaps.slots.Slot.{Slot};
 ghost use Rattle.queue.specs.Order.{ahead};
 ghost use Rattle.queue.specs.Sifting.{LeadsBelow, Lowered, Raised, Settled};
 
-use crate::entries::{Held, comes_before};
+use crate::entries::Held;
 use crate::heaps::levels::{above, below};
 use crate::heaps::slots::{Slot, stand};
 use gauge::Gauge;
 use std::ops::Range;
 
-// The first entry goes before the second. By hand, as costs are in order only by their gauge: they have no Ord to derive from.
+// The first entry goes before the second. By hand, since the order of costs is a function of their gauge and no Ord.
 fn goes_before<G: Gauge>(a: &Held<G::Cost>, b: &Held<G::Cost>) -> bool
     ensures { result ≡ ahead G.Gauge.earlier a.now b.now }
 {
-    comes_before::<G>(&a.entry, &b.entry)
-        || !comes_before::<G>(&b.entry, &a.entry) && a.point < b.point
+    G::before(a.entry.cost, b.entry.cost)
+        || !G::before(b.entry.cost, a.entry.cost) && a.point < b.point
 }
 
 // Moves the gap up past every entry that the one in hand goes before. Answers where the gap is then.
@@ -50,7 +51,7 @@ fn first_below<G: Gauge>(slots: &[Slot<G::Cost>], count: usize, place: usize) ->
     if start >= end {
         return None;
     }
-    // A for: as a `reduce` of the range, its indexes were not proved to be below the length at each turn.
+    // A for: as a `reduce` of the range, neither its indexes at each turn nor its result was proved.
     let mut first = start;
     for next in start + 1..end {
         if goes_before::<G>(&slots[next].held, &slots[first].held) {

@@ -5,7 +5,8 @@ ghost use Rattle.queue.specs.Sifting.{Noted, Stood};
 
 use crate::entries::Held;
 
-// One place of a heap's memory: an entry with its point and, for the point of this place's own number, where its entry stands.
+// One place of a heap's memory: an entry with its point and, for the point of this place's own number, where its entry stands. A number,
+// since a queue owns no memory that could hold a map.
 #[derive(Clone, Copy, Debug, PartialEq, Eq)]
 pub struct Slot<C> {
     pub held: Held<C>,
