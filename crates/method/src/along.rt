@@ -9,7 +9,7 @@ use plan::Run;
 use queue::Entry;
 
 // The open candidate of a label along a run, both by number, at the run's head: none if there is no such label, the run does not leave
-// its point, a limit would be passed, or a label at the head is no worse.
+// its point, a limit would be passed, or a label at the head is no worse. Gauge and labels are the caller's, as in each call.
 pub fn open_candidate<G: Gauge>(
     gauge: &G,
     labels: &[Label<G::Cost>],

@@ -14,7 +14,8 @@ use gauge::Gauge;
 use plan::{Plan, Run};
 use queue::Entry;
 
-// The waiting entry of a point, worked out from all labels: its soonest open candidate.
+// The waiting entry of a point, worked out from all labels: its soonest open candidate. Plan, gauge and labels are handed in, as in each
+// call.
 pub fn waiting_entry<G: Gauge>(
     plan: &Plan<G::Weight>,
     gauge: &G,
@@ -68,7 +69,8 @@ impl<'a, G: Gauge> Numbered<'a, G> {
         })
     }
 
-    // The best so far, or the soonest open candidate of all labels along a run, where that is sooner.
+    // The best so far, or the soonest open candidate of all labels along a run, where that is sooner. The run's number stands beside it, as
+    // a chain hands the two out.
     fn sooner_along(
         &self,
         best: Option<Entry<G::Cost>>,
