@@ -14,7 +14,7 @@ pub told_printed : {Z : Type 0} (r : Result (String Z) Cause) (answer : Result (
 told_printed (Ok s) answer text a t = t ∙ sym (ap printed a)
 told_printed (Err (cause.File e)) answer text a t = t ∙ sym (ap printed a)
 told_printed (Err (cause.Plan e)) answer text a t = t ∙ sym (ap printed a)
-told_printed (Err cause.Memory) answer text a t = absurd t
+told_printed (Err (cause.Memory e)) answer text a t = absurd t
 
 -- the plan over the runs that stand in a table is that of the file
 pub table_listed : {W : Type 0} (kind : ℕ) (weighed : Weighing W) (numbers : W → List ℕ) (word bs : List ℕ) (room points : ℕ) (part runs : List (Run W)) →

@@ -11,11 +11,11 @@ abbrev pub Answers : {Z : Type 0} → Result (String Z) Cause → Result (List �
 Answers (Ok s) answer = answer ≡ Ok (string_bytes s)
 Answers (Err (cause.File e)) answer = answer ≡ Err (file_row e)
 Answers (Err (cause.Plan e)) answer = answer ≡ Err (plan_row e)
-Answers (Err cause.Memory) answer = Unit {0}
+Answers (Err (cause.Memory e)) answer = Unit {0}
 
 -- the text says what r says; no text says that there was no memory
 abbrev pub Told : {Z : Type 0} → Result (String Z) Cause → List ℕ → Type 0
 Told (Ok s) text = text ≡ string_bytes s
 Told (Err (cause.File e)) text = text ≡ refused_text 0 (file_row e)
 Told (Err (cause.Plan e)) text = text ≡ refused_text 0 (plan_row e)
-Told (Err cause.Memory) text = ⊥
+Told (Err (cause.Memory e)) text = ⊥

@@ -6,14 +6,14 @@ use fault::{FileFault, PlanFault};
 use std::alloc::AllocError;
 
 // Each `From` is written out, since contracts name what `?` makes of a fault.
-#[derive(Clone, Copy)]
+#[derive(Clone, Copy, Debug, PartialEq, Eq)]
 pub enum Cause {
     // The file was refused.
     File(FileFault),
     // The plan was refused.
     Plan(PlanFault),
-    // There was no memory for the text.
-    Memory,
+    // There was no memory for the run table or for the text.
+    Memory(AllocError),
 }
 
 impl From<FileFault> for Cause {
@@ -33,9 +33,9 @@ impl From<PlanFault> for Cause {
 }
 
 impl From<AllocError> for Cause {
-    ghost from_gives = { λ _ r. r ≡ Memory };
+    ghost from_gives = { λ e r. r ≡ Memory e };
 
-    fn from(_e: AllocError) -> Cause {
-        Cause::Memory
+    fn from(error: AllocError) -> Cause {
+        Cause::Memory(error)
     }
 }

@@ -3,6 +3,7 @@
 
 mod cause;
 mod lines;
+mod listed;
 mod report;
 
 pub use report::list_plan;

@@ -3,6 +3,7 @@ ghost use Rattle.std.specs.Prelude.{◌+◌, ◌^◌, ◌<◌, ◌++◌, length,
 ghost use Rattle.planfile.specs.Kinds.{word_of};
 ghost use Rattle.listing.specs.Lines.{plan_text, point_line, refused_text, run_text, runs_text};
 
+use crate::listed::Listed;
 use fault::Fault;
 use plan::{Plan, Run};
 use planfile::Kind;
@@ -25,12 +26,12 @@ impl fmt::Display for Refusal {
 
 // A plan, then its points in order.
 #[derive(Drop)]
-pub(crate) struct Listing<'a, 'b, K: Kind> {
+pub(crate) struct Listing<'a, 'b, K: Listed> {
     pub(crate) plan: &'a Plan<'b, K::Weight>,
 }
 
-impl<'a, 'b, K: Kind> fmt::Display for Listing<'a, 'b, K> {
-    ghost output = { λ listing. Some (plan_text K.Kind.numbers (word_of K.Kind.kind) listing.plan.now.points listing.plan.now.runs.now) };
+impl<'a, 'b, K: Listed> fmt::Display for Listing<'a, 'b, K> {
+    ghost output = { λ listing. Some (plan_text K.Kind.numbers (word_of K.Listed.kind) listing.plan.now.points listing.plan.now.runs.now) };
 
     fn fmt<W: fmt::Write>(&self, f: &mut fmt::Formatter<W>) -> fmt::Result {
         let kind = K::kind();

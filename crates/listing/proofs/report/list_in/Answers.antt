@@ -13,7 +13,7 @@ pub returns-in_err-header : goal.returns-in_err-header
 returns-in_err-header g c =
     let p = err_from_is_err_and c.from_residual.result c.from_residual.ensures.1 in
     let runs = refused_runs g.K.Kind.weighed c.args.bytes.now g.K.Kind.number (length c.args.table.now) c.in_err-header.field-0.0 (sym c.in_err-header.ensures.answer) in
-    rw (p.1, p.2) (ap (runs_listed g.K.Kind.numbers (word_of g.K.Kind.kind) (points_in c.args.bytes.now)) runs)
+    rw (p.1, p.2) (ap (runs_listed g.K.Kind.numbers (word_of g.K.Listed.kind) (points_in c.args.bytes.now)) runs)
 
 pub slice_bounds-list_runs-end : goal.slice_bounds-list_runs-end
 slice_bounds-list_runs-end g c =
@@ -33,5 +33,5 @@ returns g c =
     ap (take c.in_ok-header.header.runs) c.in_ok-header.ensures.after
     ∙ ap (λ n. take n (file_table g.K.Kind.number g.K.Kind.weighed c.args.bytes.now c.args.table.now)) (sym read.2) ∙ part in
     subst (λ a. Answers c.list_runs.result a)
-    (table_listed g.K.Kind.number g.K.Kind.weighed g.K.Kind.numbers (word_of g.K.Kind.kind) c.args.bytes.now (length c.args.table.now) c.in_ok-header.header.points (take c.in_ok-header.header.runs c.read.new.table) read.0 read.1 here read.3)
+    (table_listed g.K.Kind.number g.K.Kind.weighed g.K.Kind.numbers (word_of g.K.Listed.kind) c.args.bytes.now (length c.args.table.now) c.in_ok-header.header.points (take c.in_ok-header.header.runs c.read.new.table) read.0 read.1 here read.3)
     c.list_runs.ensures
