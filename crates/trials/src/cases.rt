@@ -1,6 +1,6 @@
 // What the trials share: runs as lines of numbers, rows of faults, and the bytes of plan files.
 use fault::Fault;
-use gauge::pair::Pair;
+use gauge::house::{CableWeight, cable_weight};
 use std::alloc::{AllocError, Global};
 use std::test::Fail;
 
@@ -27,7 +27,7 @@ pub(crate) const LEVEL_C: [Line; 5] = [
     (2, 3, [15, 0, 4]),
 ];
 
-// The layer, number and place of a fault.
+// The layer, number and place of a fault, as a table of cases writes them.
 pub(crate) type Row = (u8, u8, usize);
 
 pub(crate) fn fault((layer, number, place): Row) -> Fault {
@@ -68,16 +68,7 @@ pub(crate) fn file(heap: Global, points: u16, kind: u16, lines: &[Line]) -> Resu
     Ok(bytes)
 }
 
-// A cost or a weight of three parts.
-pub(crate) fn three<A, B, C>((first, second, third): (A, B, C)) -> Pair<A, Pair<B, C>> {
-    let second = Pair {
-        first: second,
-        second: third,
-    };
-    Pair { first, second }
-}
-
-// A cable cost of three numbers.
-pub(crate) fn cable_cost([a, b, c]: [u32; 3]) -> Pair<u32, Pair<u32, u32>> {
-    three((a, b, c))
+// A cable cost of three numbers: its form is that of a weight.
+pub(crate) fn cable_cost([a, b, c]: [u32; 3]) -> CableWeight {
+    cable_weight(a, b, c)
 }

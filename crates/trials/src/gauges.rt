@@ -1,8 +1,10 @@
 // Gauges: the cost after a run, and how two costs compare.
-use crate::cases::{ONES, WIDEST, cable_cost, three};
+use crate::cases::{ONES, WIDEST, cable_cost};
+use fault::Fault;
 use gauge::Gauge;
-use gauge::house::{Cable, Drive, cable_at, drive_at, widest_cable, widest_drive};
-use gauge::pair::Pair;
+use gauge::house::{
+    Cable, DriveWeight, cable_at, drive_at, drive_weight, widest_cable, widest_drive,
+};
 use gauge::set::Set;
 use gauge::sum::Sum;
 use gauge::worst::Worst;
@@ -70,22 +72,20 @@ const SET_ORDERS: [(u32, u32, bool, bool); 10] = [
     (ONES, 2147483648, false, false),
 ];
 
-// The parts of a cost or a weight of each kind.
-type Three = (u32, u32, u32);
-
-type Ramped = (u32, u8, u32);
-
 // A cost, the weight of a run, and the cost after it, at the limits 10, 3 and 5.
-const CABLES: [(Three, Three, Option<Three>); 8] = [
-    ((0, 0, 0), (0, 0, 0), Some((0, 0, 0))),
-    ((0, 0, 0), (10, 3, 5), Some((10, 3, 5))),
-    ((4, 1, 1), (6, 2, 4), Some((10, 3, 5))),
-    ((4, 1, 1), (0, 0, 1), Some((4, 1, 1))),
-    ((4, 1, 1), (7, 0, 0), None),
-    ((4, 1, 1), (0, 3, 0), None),
-    ((4, 1, 1), (0, 0, 2), None),
-    ((4, 1, 1), (7, 3, 2), None),
+const CABLES: [([u32; 3], [u32; 3], Option<[u32; 3]>); 8] = [
+    ([0, 0, 0], [0, 0, 0], Some([0, 0, 0])),
+    ([0, 0, 0], [10, 3, 5], Some([10, 3, 5])),
+    ([4, 1, 1], [6, 2, 4], Some([10, 3, 5])),
+    ([4, 1, 1], [0, 0, 1], Some([4, 1, 1])),
+    ([4, 1, 1], [7, 0, 0], None),
+    ([4, 1, 1], [0, 3, 0], None),
+    ([4, 1, 1], [0, 0, 2], None),
+    ([4, 1, 1], [7, 3, 2], None),
 ];
+
+// The parts of a drive cost.
+type Ramped = (u32, u8, u32);
 
 const DRIVES: [(Ramped, Ramped, Option<Ramped>); 7] = [
     ((0, 0, 0), (10, 3, 5), Some((10, 3, 5))),
@@ -120,25 +120,32 @@ where
     assert_eq!(rt; G::before(a, b), before, "{a:?} before {b:?}");
 }
 
-// The three parts of a cost after a run.
-fn along_three<A: Gauge, B: Gauge, C: Gauge>(
-    gauge: &Pair<A, Pair<B, C>>,
-    cost: (A::Cost, B::Cost, C::Cost),
-    weight: (A::Weight, B::Weight, C::Weight),
-) -> Option<(A::Cost, B::Cost, C::Cost)> {
-    let after = gauge.along(three(cost), three(weight))?;
-    Some((after.first, after.second.first, after.second.second))
+// A drive cost of three numbers: its form is that of a weight.
+fn drive_cost((a, b, c): Ramped) -> DriveWeight {
+    drive_weight(a, b, c)
+}
+
+// The cost after a run, at some limits.
+fn check_along<G: Gauge>(
+    rt: &impl Abort,
+    limits: &impl Debug,
+    gauge: &G,
+    (cost, weight): (G::Cost, G::Weight),
+    want: Option<G::Cost>,
+)
+where
+    G::Cost: Debug + PartialEq,
+    G::Weight: Debug,
+{
+    let got = gauge.along(cost, weight);
+    assert_eq!(rt; got, want, "at {limits:?}, {cost:?} along {weight:?}");
 }
 
 #[test]
 fn a_sum_reaches_its_limit_and_does_not_pass_it(rt: HostRuntime) -> Result<(), Fail> {
     for (limit, cost, weight, want) in SUMS {
         let sum = Sum::new(limit).ok_or("limit")?;
-        assert_eq!(rt;
-            sum.along(cost, weight),
-            want,
-            "limit {limit}, {cost} along {weight}"
-        );
+        check_along(&rt, &limit, &sum, (cost, weight), want);
     }
     assert_eq!(rt; Sum::widest().along(4294967293, 1), Some(WIDEST));
     assert_eq!(rt; Sum::widest().along(4294967293, 2), None);
@@ -149,11 +156,7 @@ fn a_sum_reaches_its_limit_and_does_not_pass_it(rt: HostRuntime) -> Result<(), F
 fn the_greater_class_is_kept_up_to_its_limit(rt: HostRuntime) -> Result<(), Fail> {
     for (limit, cost, weight, want) in WORSTS {
         let worst = Worst::new(limit).ok_or("limit")?;
-        assert_eq!(rt;
-            worst.along(cost, weight),
-            want,
-            "limit {limit}, {cost} along {weight}"
-        );
+        check_along(&rt, &limit, &worst, (cost, weight), want);
     }
     Ok(())
 }
@@ -169,11 +172,7 @@ fn totals_and_classes_compare_as_numbers(rt: HostRuntime) {
 #[test]
 fn sets_unite_within_the_allowed_set_and_compare(rt: HostRuntime) {
     for (allowed, cost, weight, want) in SETS {
-        assert_eq!(rt;
-            Set::new(allowed).along(cost, weight),
-            want,
-            "allowed {allowed}, {cost} along {weight}"
-        );
+        check_along(&rt, &allowed, &Set::new(allowed), (cost, weight), want);
     }
     for (a, b, no_worse, before) in SET_ORDERS {
         check_order::<Set>(&rt, a, b, (no_worse, before));
@@ -182,39 +181,32 @@ fn sets_unite_within_the_allowed_set_and_compare(rt: HostRuntime) {
 
 #[test]
 fn a_house_cost_goes_along_in_all_its_parts_or_in_none(rt: HostRuntime) -> Result<(), Fail> {
-    let Ok(cable) = cable_at([10, 3, 5]) else {
-        return Err(Fail::new("cable limits"));
-    };
+    let limits = [10, 3, 5];
+    let cable = cable_at(limits).map_err(Fault::from)?;
     for (cost, weight, want) in CABLES {
-        assert_eq!(rt;
-            along_three(&cable, cost, weight),
-            want,
-            "cable {cost:?} along {weight:?}"
-        );
+        let run = (cable_cost(cost), cable_cost(weight));
+        check_along(&rt, &limits, &cable, run, want.map(cable_cost));
     }
-    let Ok(drive) = drive_at([10, 3, 5]) else {
-        return Err(Fail::new("drive limits"));
-    };
+    let drive = drive_at(limits).map_err(Fault::from)?;
     for (cost, weight, want) in DRIVES {
-        assert_eq!(rt;
-            along_three(&drive, cost, weight),
-            want,
-            "drive {cost:?} along {weight:?}"
-        );
+        let run = (drive_cost(cost), drive_cost(weight));
+        check_along(&rt, &limits, &drive, run, want.map(drive_cost));
     }
     Ok(())
 }
 
 #[test]
 fn the_widest_limits_let_the_greatest_weights_through(rt: HostRuntime) {
-    let origin = (0, 0, 0);
-    assert_eq!(rt; Cable::start(), three(origin));
-    let most = (WIDEST, WIDEST, ONES);
-    assert_eq!(rt; along_three(&widest_cable(), origin, most), Some(most));
-    assert_eq!(rt; along_three(&widest_cable(), most, (0, 1, 0)), None);
-    let most = (WIDEST, 15, WIDEST);
-    assert_eq!(rt; along_three(&widest_drive(), (0, 0, 0), most), Some(most));
-    assert_eq!(rt; along_three(&widest_drive(), most, (0, 0, 1)), None);
+    let cable = widest_cable();
+    let origin = cable_cost([0, 0, 0]);
+    assert_eq!(rt; Cable::start(), origin);
+    let most = cable_cost([WIDEST, WIDEST, ONES]);
+    assert_eq!(rt; cable.along(origin, most), Some(most));
+    assert_eq!(rt; cable.along(most, cable_cost([0, 1, 0])), None);
+    let drive = widest_drive();
+    let most = drive_cost((WIDEST, 15, WIDEST));
+    assert_eq!(rt; drive.along(drive_cost((0, 0, 0)), most), Some(most));
+    assert_eq!(rt; drive.along(most, drive_cost((0, 0, 1))), None);
 }
 
 #[test]

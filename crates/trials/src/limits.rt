@@ -1,7 +1,8 @@
 // Limits of the house's gauges.
 use crate::cases::{ONES, Row, WIDEST, fault};
-use fault::Fault;
+use fault::{Fault, LimitFault};
 use gauge::house::{cable_at, drive_at};
+use std::process::Abort;
 
 // Three limits, and the refusal that they meet.
 type Case = ([u32; 3], Option<Row>);
@@ -33,20 +34,24 @@ const DRIVES: [Case; 12] = [
     ([ONES, 0, ONES], Some((3, 11, 0))),
 ];
 
+// The first limit that is out of range is told, by the gauge that is made.
+fn check_limits<G, F: Fn([u32; 3]) -> Result<G, LimitFault>>(
+    rt: &impl Abort,
+    cases: &[Case],
+    made_at: F,
+)
+where
+    G: Copy,
+    requires { F.IsAlwaysCallable made_at }
+{
+    for (limits, want) in cases {
+        let refused = made_at(*limits).err().map(Fault::from);
+        assert_eq!(rt; refused, want.map(fault), "{limits:?}");
+    }
+}
+
 #[test]
 fn the_first_limit_out_of_range_is_told(rt: HostRuntime) {
-    for (limits, want) in CABLES {
-        assert_eq!(rt;
-            cable_at(limits).err().map(Fault::from),
-            want.map(fault),
-            "cable {limits:?}"
-        );
-    }
-    for (limits, want) in DRIVES {
-        assert_eq!(rt;
-            drive_at(limits).err().map(Fault::from),
-            want.map(fault),
-            "drive {limits:?}"
-        );
-    }
+    check_limits(&rt, &CABLES, cable_at);
+    check_limits(&rt, &DRIVES, drive_at);
 }

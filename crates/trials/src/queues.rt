@@ -1,4 +1,6 @@
 // Queues: heap and row side by side through the same long lists of calls, and each against answers written by hand.
+ghost use Rattle.std.specs.Prelude.{◌<◌};
+
 use crate::cases::cable_cost;
 use crate::layers::{Borrower, Owner};
 use gauge::Gauge;
@@ -8,8 +10,8 @@ use queue::{Entry, Heap, Held, Queue, Row, Slot};
 use std::alloc::{AllocError, Global};
 use std::process::Abort;
 
-// A call of a queue. A put names its cost by a place in a table of costs. An enum: the same call is made of two queues of different
-// types, and a closure takes one type.
+// A call of a queue. A put names its cost by a place in a table of costs. An enum: as a closure, a call that
+// is made up would have to be boxed and handed out.
 #[derive(Clone, Copy)]
 enum Call {
     Clear,
@@ -59,100 +61,120 @@ fn next(state: u64) -> u64 {
         .wrapping_add(1442695040888963407)
 }
 
-// How many costs a table has.
-const COSTS: usize = 8;
+// A number below another. By `as`, since a remainder fits: `try_from` would add an error that can't come.
+fn below(number: u64, end: u16) -> u16
+    requires { 0 < end }
+    ensures { result < end }
+{
+    (number % u64::from(end)) as u16
+}
 
-// A call of each kind, puts most often. Points go past the capacity now and then.
-fn made_up(number: u64, points: u64) -> Call {
-    let point = ((number >> 40) % (points % 65000 + 2)) as u16;
-    let cost = ((number >> 24) % 8) as usize;
-    match (number >> 56) % 32 {
+// How many costs a table has.
+const COSTS: u16 = 8;
+
+// A call of each kind, puts most often. Points go past the capacity now and then. A capacity fits 64 bits, for which there is no `From`.
+fn made_up(number: u64, room: usize) -> Call {
+    let point = below(number >> 40, below(room as u64, 65000) + 2);
+    let cost = usize::from(below(number >> 24, COSTS));
+    match below(number >> 56, 32) {
         0 => Call::Clear,
         1..=6 => Call::Take,
         7..=9 => Call::Look,
         10..=13 => Call::Find(point),
-        _ => Call::Put(point, cost, ((number >> 16) % 4096) as u16),
+        _ => Call::Put(point, cost, below(number >> 16, 4096)),
     }
 }
 
-// Makes so many calls of two queues. Tells the first that they answered differently, if there is one.
-fn first_unlike<G: Gauge, A: Queue<G>, B: Queue<G>>(
-    a: &mut A,
-    b: &mut B,
-    costs: &[G::Cost],
-    calls: usize,
+// What queues are asked in a trial.
+#[derive(Drop)]
+struct Trial<'a, G: Gauge> {
+    // The costs of the puts, and that of all puts before the first clear.
+    costs: &'a [G::Cost],
+    early: G::Cost,
+    // Where the made-up numbers begin.
     seed: u64,
-) -> Option<usize>
+}
+
+impl<'a, G: Gauge> Trial<'a, G>
 where
     G::Cost: PartialEq,
 {
-    let points = a.capacity() as u64;
-    let mut state = seed;
-    for i in 0..calls {
-        state = next(state);
-        if !answer_alike::<G, A, B>(a, b, made_up(state, points), costs) {
-            return Some(i);
+    // Makes so many calls of two queues. Tells the first that they answered differently, if there is one.
+    fn first_unlike<A: Queue<G>, B: Queue<G>>(
+        &self,
+        a: &mut A,
+        b: &mut B,
+        calls: usize,
+    ) -> Option<usize> {
+        let mut state = self.seed;
+        for i in 0..calls {
+            state = next(state);
+            let call = made_up(state, a.capacity());
+            if !answer_alike::<G, A, B>(a, b, call, self.costs) {
+                return Some(i);
+            }
         }
+        None
     }
-    None
-}
 
-// Makes calls of a queue that was never cleared, over any memory. Tells the first put that was not refused as it should be.
-fn first_unowed<G: Gauge, Q: Queue<G>>(queue: &mut Q, cost: G::Cost, seed: u64) -> Option<u16> {
-    let entry = Entry {
-        cost,
-        from: None,
-        run: Some(7),
-    };
-    let room = queue.capacity();
-    let mut state = seed;
-    for _ in 0..200 {
-        state = next(state);
-        let point = ((state >> 40) % 48) as u16;
-        let refused = queue.put(point, &entry).is_err();
-        if refused != (point as usize >= room) || queue.capacity() != room {
-            return Some(point);
+    // Makes calls of a queue that was never cleared, over any memory. Tells the first put that was not refused as it should be.
+    fn first_unowed<Q: Queue<G>>(&self, queue: &mut Q) -> Option<u16> {
+        let entry = Entry {
+            cost: self.early,
+            from: None,
+            run: Some(7),
+        };
+        let room = queue.capacity();
+        let mut state = self.seed;
+        for _ in 0..200 {
+            state = next(state);
+            let point = below(state >> 40, 48);
+            let refused = queue.put(point, &entry).is_err();
+            if refused != (usize::from(point) >= room) || queue.capacity() != room {
+                return Some(point);
+            }
+            if state >> 63 == 0 {
+                let _ = queue.find(point);
+                let _ = queue.look();
+                let _ = queue.take();
+            }
         }
-        if state >> 63 == 0 {
-            let _ = queue.find(point);
-            let _ = queue.look();
-            let _ = queue.take();
-        }
+        None
     }
-    None
-}
 
-// Two queues that were never cleared: what they owe then, and after a clear the same answers to many calls.
-fn side_by_side<G: Gauge, A: Queue<G>, B: Queue<G>>(
-    rt: &impl Abort,
-    a: &mut A,
-    b: &mut B,
-    costs: &[G::Cost],
-    cost: G::Cost,
-    seed: u64,
-)
-where
-    G::Cost: PartialEq,
-{
-    let room = a.capacity();
-    assert_eq!(rt; room, b.capacity(), "capacity {room}");
-    assert_eq!(rt;
-        first_unowed::<G, A>(a, cost, seed),
-        None,
-        "capacity {room}"
-    );
-    assert_eq!(rt;
-        first_unowed::<G, B>(b, cost, seed),
-        None,
-        "capacity {room}"
-    );
-    a.clear();
-    b.clear();
-    assert_eq!(rt;
-        first_unlike::<G, A, B>(a, b, costs, 600, seed),
-        None,
-        "capacity {room}"
-    );
+    // Two queues that were never cleared: what they owe then, and after a clear the same answers to many calls.
+    fn side_by_side<A: Queue<G>, B: Queue<G>>(&self, rt: &impl Abort, a: &mut A, b: &mut B) {
+        let room = a.capacity();
+        assert_eq!(rt; room, b.capacity(), "capacity {room}");
+        assert_eq!(rt; self.first_unowed(a), None, "capacity {room}");
+        assert_eq!(rt; self.first_unowed(b), None, "capacity {room}");
+        a.clear();
+        b.clear();
+        assert_eq!(rt; self.first_unlike(a, b, 600), None, "capacity {room}");
+    }
+
+    // A heap and a row of so many places side by side, over memory that holds anything, with one cost in all places.
+    fn heap_and_row(
+        &self,
+        rt: &impl Abort,
+        alloc: Global,
+        room: u16,
+        cost: G::Cost,
+    ) -> Result<(), AllocError> {
+        let entry = Entry {
+            cost,
+            from: Some(1),
+            run: None,
+        };
+        let held = Held { point: 0, entry };
+        let mut slots = vec![in alloc; Slot { held, place: 0 }; usize::from(room)]?;
+        wild(slots.as_mut_slice(), u64::from(room));
+        let mut places = vec![in alloc; Some(entry); usize::from(room)]?;
+        let mut heap: Heap<G> = Heap::new(slots.as_mut_slice());
+        let mut row: Row<G> = Row::new(places.as_mut_slice());
+        self.side_by_side(rt, &mut heap, &mut row);
+        Ok(())
+    }
 }
 
 // What memory holds at first: points and places of all sizes.
@@ -160,44 +182,22 @@ fn wild<C: Copy>(slots: &mut [Slot<C>], seed: u64) {
     let mut state = seed;
     for slot in slots.iter_mut() {
         state = next(state);
-        slot.held.point = ((state >> 48) % 40) as u16;
-        slot.place = ((state >> 30) % 40) as usize;
+        slot.held.point = below(state >> 48, 40);
+        slot.place = usize::from(below(state >> 30, 40));
     }
 }
 
-const SUMS: [u32; COSTS] = [0, 1, 1, 2, 5, 5, 9, 4294967294];
-
-// A heap and a row of so many places side by side, over memory that holds anything, with one cost in all places.
-fn heap_and_row<G: Gauge>(
-    rt: &impl Abort,
-    alloc: Global,
-    room: usize,
-    costs: &[G::Cost],
-    [before, cost]: [G::Cost; 2],
-    seed: u64,
-) -> Result<(), AllocError>
-where
-    G::Cost: PartialEq,
-{
-    let entry = Entry {
-        cost: before,
-        from: Some(1),
-        run: None,
-    };
-    let held = Held { point: 0, entry };
-    let mut slots = vec![in alloc; Slot { held, place: 0 }; room]?;
-    wild(slots.as_mut_slice(), room as u64);
-    let mut places = vec![in alloc; Some(entry); room]?;
-    let mut heap: Heap<G> = Heap::new(slots.as_mut_slice());
-    let mut row: Row<G> = Row::new(places.as_mut_slice());
-    side_by_side::<G, Heap<'_, _>, Row<'_, _>>(rt, &mut heap, &mut row, costs, cost, seed);
-    Ok(())
-}
+const SUMS: [u32; 8] = [0, 1, 1, 2, 5, 5, 9, 4294967294];
 
 #[test]
 fn heap_and_row_answer_alike_at_sums(rt: HostRuntime) -> Result<(), AllocError> {
-    for room in 0..32 {
-        heap_and_row::<Sum>(&rt, rt.alloc(), room, &SUMS, [3, 4], room as u64)?;
+    for room in 0..32u16 {
+        let trial: Trial<Sum> = Trial {
+            costs: &SUMS,
+            early: 4,
+            seed: u64::from(room),
+        };
+        trial.heap_and_row(&rt, rt.alloc(), room, 3)?;
     }
     Ok(())
 }
@@ -215,10 +215,14 @@ fn heap_and_row_answer_alike_at_cables(rt: HostRuntime) -> Result<(), AllocError
         cable_cost([25, 1, 6]),
         cable_cost([4294967294, 0, 0]),
     ];
-    let cost = cable_cost([7, 7, 7]);
-    for room in [1, 5, 13, 32] {
-        let seed = 1000 + room as u64;
-        heap_and_row::<Cable>(&rt, rt.alloc(), room, &costs, [cost, cost], seed)?;
+    let early = cable_cost([7, 7, 7]);
+    for room in [1u16, 5, 13, 32] {
+        let trial: Trial<Cable> = Trial {
+            costs: &costs,
+            early,
+            seed: 1000 + u64::from(room),
+        };
+        trial.heap_and_row(&rt, rt.alloc(), room, early)?;
     }
     Ok(())
 }
@@ -238,7 +242,12 @@ fn a_layer_over_a_queue_is_a_queue(rt: HostRuntime) {
     let mut row: Row<Sum> = Row::new(&mut places);
     let mut owner = Owner { inner: heap };
     let mut borrower = Borrower { inner: &mut row };
-    side_by_side::<Sum, Owner<_>, Borrower<'_, _>>(&rt, &mut owner, &mut borrower, &SUMS, 4, 9);
+    let trial: Trial<Sum> = Trial {
+        costs: &SUMS,
+        early: 4,
+        seed: 9,
+    };
+    trial.side_by_side(&rt, &mut owner, &mut borrower);
 }
 
 // A point and the cost of its entry.
@@ -320,14 +329,14 @@ fn heap_and_row_answer_as_written_by_hand(rt: HostRuntime) {
 
 // More places than there are points: the last ones are those of no point.
 #[test]
-fn a_row_leaves_places_past_the_last_point_alone(rt: HostRuntime) {
+fn a_row_leaves_places_past_the_last_point_alone(rt: HostRuntime) -> Result<(), AllocError> {
     let entry = Entry {
         cost: 0u32,
         from: None,
         run: None,
     };
-    let mut places = [Some(entry); 65540];
-    let mut row: Row<Sum> = Row::new(&mut places);
+    let mut places = vec![in rt.alloc(); Some(entry); 65540]?;
+    let mut row: Row<Sum> = Row::new(places.as_mut_slice());
     row.clear();
     assert_eq!(rt; row.capacity(), 65540);
     assert_eq!(rt; put::<Row<'_, _>>(&mut row, 65535, 4), Ok(()));
@@ -335,4 +344,5 @@ fn a_row_leaves_places_past_the_last_point_alone(rt: HostRuntime) {
     assert_eq!(rt; seen(row.take()), Some((5, 4)));
     assert_eq!(rt; seen(row.take()), Some((65535, 4)));
     assert_eq!(rt; seen(row.take()), None);
+    Ok(())
 }
