@@ -1,5 +1,6 @@
 -- What a row answers from one look at each of its places.
-use Rattle.std.proofs.Common.{◌≡◌, ℕ, suc, ◌+◌, ◌<◌, Bool, true, false, cond, List, [], ◌∷◌, length, get_or, nat_lt, Some, None, Option, sym, refl, ap, ◌∙◌, subst, add-one, zero-add, arith, map-id}
+use Rattle.std.proofs.Common.{◌≡◌, ℕ, zero, suc, ◌+◌, ◌<◌, ◌≤◌, Bool, true, false, cond, List, [], ◌∷◌, length, get_or, take, nat_lt, Some, None, Option, sym, refl, ap, ◌∙◌, subst, add-one, zero-add, arith, map-id}
+use Rattle.std.proofs.lemmas.Bool.Decides.{nat_tests}
 use Rattle.std.specs.List.{enumerate_from, filter_map, cons_option, fold, reduce}
 use Rattle.std.specs.Option.{MatchOption}
 use Rattle.std.specs.Iterator.{ActsAsOnTwo, DrainsIf}
@@ -66,3 +67,20 @@ module _ {C : Type 0} (before : C → C → Bool) where
       go : (k : ℕ) (o : Option (Entry C)) (t : Bool) → held_of k (cond t o None) ≡ cond t (held_of k o) None
       go k o true = refl
       go k o false = refl
+
+  -- places past the last point hold nothing
+  past : (n : ℕ) (xs : List (Option (Entry C))) → 65536 ≤ n → filter_map (λ p. row_held p.0 p.1) (enumerate_from n xs) ≡ []
+  past n [] h = refl
+  past n (x ∷ xs) h =
+      let no : nat_lt n 65536 ≡ false = grind (arith, nat_tests) in
+      ap (λ t. cons_option (cond t (held_of n x) None) (filter_map (λ p. row_held p.0 p.1) (enumerate_from (n + 1) xs))) no ∙ past (n + 1) xs (omega arith)
+
+  -- so the first places are enough, where no point comes after them
+  enough : (m n : ℕ) (xs : List (Option (Entry C))) → 65536 ≤ n + m → filter_map (λ p. row_held p.0 p.1) (enumerate_from n (take m xs)) ≡ filter_map (λ p. row_held p.0 p.1) (enumerate_from n xs)
+  enough zero n xs h = sym (past n xs (omega arith))
+  enough (suc m) n [] h = refl
+  enough (suc m) n (x ∷ xs) h = ap (cons_option (row_held n x)) (enough m (n + 1) xs (omega arith))
+
+  -- the first of a row's entries, from the places that are those of points
+  pub points_look : (xs : List (Option (Entry C))) → reduce (first_of_two before) (filter_map (λ p. row_held p.0 p.1) (enumerate_from 0 (take 65536 xs))) ≡ look before (row_entries xs) (length xs)
+  points_look xs = ap (reduce (first_of_two before)) (enough 65536 0 xs (omega arith)) ∙ row_look xs

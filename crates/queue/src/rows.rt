@@ -7,6 +7,9 @@ use crate::Queue;
 use crate::entries::{Entry, Held};
 use gauge::Gauge;
 
+// How many points there are: their numbers have 16 bits.
+const POINTS: usize = 1 << 16;
+
 // Place p of the lent memory is that of point p. Places past the last number of 16 bits are those of no point.
 #[derive(Drop)]
 pub struct Row<'a, G: Gauge> {
@@ -56,6 +59,7 @@ impl<'a, G: Gauge> Queue<G> for Row<'a, G> {
     fn look(&self) -> Option<Held<G::Cost>> {
         self.places
             .iter()
+            .take(POINTS)
             .enumerate()
             .filter_map(|(at, place)| held_in(at, *place))
             .reduce(|first, next| first_of_two::<G>(first, next))
