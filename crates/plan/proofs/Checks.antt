@@ -15,30 +15,30 @@ abbrev Fine : {W : Type 0} → ℕ → ℕ → List (Run W) → Type 0
 Fine points last xs = Ends points xs × Ordered xs × Above last xs
 
 -- one run more in front
+more_ends : {W : Type 0} (points : ℕ) (x : Run W) (xs : List (Run W)) → x.tail < points → x.head < points → Ends points xs → Ends points (x ∷ xs)
+more_ends points x xs t h ends zero r e = grind arith
+more_ends points x xs t h ends (suc k) r e = ends k r e
+
+more_above : {W : Type 0} (last : ℕ) (x : Run W) (xs : List (Run W)) → last ≤ x.tail → Above x.tail xs → Above last (x ∷ xs)
+more_above last x xs l above zero h = l
+more_above last x xs l above (suc k) h = let up = above k (omega arith) in omega arith
+
+more_ordered : {W : Type 0} (x : Run W) (xs : List (Run W)) → Above x.tail xs → Ordered xs → Ordered (x ∷ xs)
+more_ordered x xs above o zero zero l h = omega arith
+more_ordered x xs above o zero (suc k) l h = above k (omega arith)
+more_ordered x xs above o (suc j) zero l h = grind arith
+more_ordered x xs above o (suc j) (suc k) l h = o j k (omega arith) (omega arith)
+
 more : {W : Type 0} (points last : ℕ) (x : Run W) (xs : List (Run W)) → (x.tail < points) × (x.head < points) × (last ≤ x.tail) → Fine points x.tail xs → Fine points last (x ∷ xs)
-more points last x xs here (ends, o, above) = (ends_more, ordered_more, above_more)
-  where
-    ends_more : Ends points (x ∷ xs)
-    ends_more zero r e = grind arith
-    ends_more (suc k) r e = ends k r e
-
-    ordered_more : Ordered (x ∷ xs)
-    ordered_more zero zero l h = omega arith
-    ordered_more zero (suc k) l h = above k (omega arith)
-    ordered_more (suc j) zero l h = grind arith
-    ordered_more (suc j) (suc k) l h = o j k (omega arith) (omega arith)
-
-    above_more : Above last (x ∷ xs)
-    above_more zero h = here.2
-    above_more (suc k) h = let up = above k (omega arith) in omega arith
+more points last x xs here (ends, o, above) = (more_ends points x xs here.0 here.1 ends, more_ordered x xs above o, more_above last x xs here.2 above)
 
 -- runs that are accepted
-accepted : {W : Type 0} (points last k : ℕ) (xs : List (Run W)) → runs_answer points last k xs ≡ Ok tt → Fine points last xs
+pub accepted : {W : Type 0} (points last k : ℕ) (xs : List (Run W)) → runs_answer points last k xs ≡ Ok tt → Fine points last xs
 accepted points last k [] e = ((λ j r at. grind arith), (λ i j l h. grind arith), (λ j h. grind arith))
 accepted points last k (x ∷ xs) e = more points last x xs (grind (arith, nat_tests)) (accepted points x.tail (k + 1) xs (grind (arith, nat_tests)))
 
 -- runs that have nothing to refuse
-accepts : {W : Type 0} (points last k : ℕ) (xs : List (Run W)) → Fine points last xs → runs_answer points last k xs ≡ Ok tt
+pub accepts : {W : Type 0} (points last k : ℕ) (xs : List (Run W)) → Fine points last xs → runs_answer points last k xs ≡ Ok tt
 accepts points last k [] fine = refl
 accepts points last k (x ∷ xs) (ends, o, above) =
     let at = ends 0 x refl in

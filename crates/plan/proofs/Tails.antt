@@ -1,6 +1,6 @@
 -- Where the first tail not below a point stands in a table in order of tail.
-use Rattle.std.proofs.Common.{◌≡◌, ℕ, zero, suc, ◌+◌, ◌-◌, ◌<◌, ◌≤◌, ltb, true, false, List, [], ◌∷◌, ◌++◌, length, get_or, drop, Some, sym, refl, suc-le-suc, arith, append_assoc, append-nil, lt-ltb}
-use Rattle.std.proofs.lemmas.List.{length-take-le, length-drop, drop_all}
+use Rattle.std.proofs.Common.{◌≡◌, ℕ, zero, suc, ◌+◌, ◌-◌, ◌<◌, ◌≤◌, ltb, true, false, List, [], ◌∷◌, ◌++◌, length, get_or, take, drop, Some, sym, refl, suc-le-suc, arith, append_assoc, append-nil, lt-ltb}
+use Rattle.std.proofs.lemmas.List.{length-take-le, length-drop, drop_all, take_all}
 use Rattle.std.proofs.lemmas.List.Folds.{drop_split}
 use Rattle.std.proofs.lemmas.Option.{slice_get-get_or, slice_get_within, get_or_from_slice_get}
 use Rattle.std.proofs.lemmas.Bool.Decides.{nat_tests}
@@ -11,7 +11,7 @@ use Rattle.plan.specs.Sound.{tails, Ends, Ordered}
 use Rattle.plan.specs.Leave.{first_from, leaving_part, Leave, parts}
 
 -- the tail of a run of the table
-tail_get_or : {W : Type 0} (xs : List (Run W)) (k : ℕ) (d : Run W) → k < length xs → (get_or xs k d).tail ≡ get_or (tails xs) k 0
+pub tail_get_or : {W : Type 0} (xs : List (Run W)) (k : ℕ) (d : Run W) → k < length xs → (get_or xs k d).tail ≡ get_or (tails xs) k 0
 tail_get_or [] k d h = grind arith
 tail_get_or (x ∷ xs) zero d h = refl
 tail_get_or (x ∷ xs) (suc k) d h = tail_get_or xs k d (omega arith)
@@ -38,6 +38,12 @@ pub first_rises : {W : Type 0} (point n : ℕ) (xs : List (Run W)) → first_fro
 first_rises point n [] = omega arith
 first_rises point n (x ∷ xs) = let ih = first_rises point n xs in grind (arith, nat_tests)
 
+-- it stands no later than any tail not below the point, in a table of any order
+pub first_upto : {W : Type 0} (point : ℕ) (xs : List (Run W)) (k : ℕ) → k < length xs → point ≤ get_or (tails xs) k 0 → first_from point xs ≤ k
+first_upto point [] k h l = grind arith
+first_upto point (x ∷ xs) zero h l = grind (arith, nat_tests)
+first_upto point (x ∷ xs) (suc k) h l = let ih = first_upto point xs k (omega arith) l in grind (arith, nat_tests)
+
 -- it stands where the tails below the point end
 pub first_is : {W : Type 0} (point : ℕ) (xs : List (Run W)) (n : ℕ) → n ≤ length xs → IsPartitionPoint (λ (r : Run W). ltb r.tail point ≡ true) (λ (r : Run W). ltb r.tail point ≡ false) xs n → n ≡ first_from point xs
 first_is point [] n h at = omega arith
@@ -48,7 +54,7 @@ first_is point (x ∷ xs) (suc n) h at =
     grind (arith, nat_tests)
 
 -- it stands past each tail below the point, and not past any other
-first_between : {W : Type 0} (point : ℕ) (xs : List (Run W)) (k : ℕ) (r : Run W) → Ordered xs → slice_get xs k ≡ Some r → (k < first_from point xs → r.tail < point) × (first_from point xs ≤ k → point ≤ r.tail)
+pub first_between : {W : Type 0} (point : ℕ) (xs : List (Run W)) (k : ℕ) (r : Run W) → Ordered xs → slice_get xs k ≡ Some r → (k < first_from point xs → r.tail < point) × (first_from point xs ≤ k → point ≤ r.tail)
 first_between point [] k r o e = grind arith
 first_between point (x ∷ xs) zero r o e = grind (arith, nat_tests)
 first_between point (x ∷ xs) (suc k) r o e =
@@ -61,6 +67,28 @@ first_between point (x ∷ xs) (suc k) r o e =
 -- the part that leaves a point stands within the table
 pub part_within : {W : Type 0} (point : ℕ) (xs : List (Run W)) → (first_from point xs ≤ first_from (point + 1) xs) × (first_from (point + 1) xs ≤ length xs)
 part_within point xs = (first_rises point 1 xs, first_within (point + 1) xs)
+
+-- without its first runs, as long as their tails are below the point, it stands so many places earlier
+first_drop : {W : Type 0} (point n : ℕ) (xs : List (Run W)) → n ≤ first_from point xs → n + first_from point (drop n xs) ≡ first_from point xs
+first_drop point zero xs h = omega arith
+first_drop point (suc n) [] h = grind arith
+first_drop point (suc n) (x ∷ xs) h = let ih = first_drop point n xs (grind (arith, nat_tests)) in grind (arith, nat_tests)
+
+-- a table in order stays so without its first runs
+drop_ordered : {W : Type 0} (n : ℕ) (xs : List (Run W)) → Ordered xs → Ordered (drop n xs)
+drop_ordered zero xs o = o
+drop_ordered (suc n) [] o = o
+drop_ordered (suc n) (x ∷ xs) o = drop_ordered n xs (rest_ordered x xs o)
+
+-- the rest of a table from a place on
+rest_is : {X : Type 0} (n : ℕ) (xs : List X) → take (length xs - n) (drop n xs) ≡ drop n xs
+rest_is n xs = let long = length-drop n xs in take_all (length xs - n) (drop n xs) (omega arith)
+
+pub rest_in_order : {W : Type 0} (n : ℕ) (xs : List (Run W)) → Ordered xs → Ordered (take (length xs - n) (drop n xs))
+rest_in_order n xs o = rw (rest_is n xs) (drop_ordered n xs o)
+
+pub first_on : {W : Type 0} (point n : ℕ) (xs : List (Run W)) → n ≤ first_from point xs → n + first_from point (take (length xs - n) (drop n xs)) ≡ first_from point xs
+first_on point n xs h = rw (rest_is n xs) (first_drop point n xs h)
 
 -- the length of the part that leaves a point
 pub leaving_length : {W : Type 0} (point : ℕ) (xs : List (Run W)) → first_from point xs + length (leaving_part point xs) ≡ first_from (point + 1) xs

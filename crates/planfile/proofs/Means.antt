@@ -1,5 +1,5 @@
 -- The reader's answer and table, in words of the file.
-use Rattle.std.proofs.Common.{◌≡◌, ℕ, zero, suc, ◌+◌, ◌<◌, ◌≤◌, true, List, ◌++◌, length, drop, is_ok, Some, Ok, Err, Decides, Result, sym, refl, ap, ◌∙◌, arith}
+use Rattle.std.proofs.Common.{◌≡◌, ℕ, zero, suc, ◌+◌, ◌*◌, ◌<◌, ◌≤◌, true, List, ◌++◌, length, drop, is_ok, Some, Ok, Err, Decides, Result, sym, refl, ap, ◌∙◌, arith}
 use Rattle.std.proofs.lemmas.Option.{gets}
 use Rattle.std.proofs.lemmas.Grind.{common_steps}
 use Rattle.std.proofs.lemmas.Bool.Decides.{nat_tests}
@@ -8,9 +8,9 @@ use Rattle.fault.specs.declared.file.FileFault.{FileFault}
 use Rattle.plan.specs.declared.runs.Run.{Run}
 use Rattle.planfile.specs.declared.reader.Header.{Header}
 use Rattle.planfile.specs.Weights.{Weighing, and_then}
-use Rattle.planfile.specs.File.{points_in, runs_in, weight_at, header_answer, run_at, runs_from, filled, file_runs, file_answer, file_table}
+use Rattle.planfile.specs.File.{points_in, runs_in, kind_in, weight_at, header_answer, run_at, runs_from, filled, file_runs, file_answer, file_table}
 use Rattle.planfile.specs.Meaning.{Readable, Stands, Placed}
-use Rattle.planfile.proofs.Told.{header_told, first_read, runs_length, accepted_parts, refused_runs}
+use Rattle.planfile.proofs.Told.{first_read, runs_length, accepted_parts, refused_runs}
 
 -- places of two lists, one after the other
 nth_front : {X : Type 0} (xs ys : List X) (k : ℕ) → k < length xs → slice_get (xs ++ ys) k ≡ slice_get xs k
@@ -49,24 +49,30 @@ module _ {W : Type 0} (weighed : Weighing W) (bs : List ℕ) (r : ℕ) where
       let rest = runs_read n (k + 1) (λ j h l. good j (omega arith) (omega arith)) in
       grind arith
 
+-- an accepted header
+header_good : (kind : ℕ) (bs : List ℕ) (room : ℕ) (h : Header) → header_answer kind bs room ≡ Ok h →
+    (6 ≤ length bs) × (1 ≤ points_in bs) × (points_in bs ≤ 256) × (runs_in bs ≤ 1024) × (kind_in bs ≡ kind) × (length bs ≡ 6 + 16 * runs_in bs) × (runs_in bs ≤ room) × (h.runs ≡ runs_in bs)
+header_good kind bs room h e =
+    (grind (arith, nat_tests), grind (arith, nat_tests), grind (arith, nat_tests), grind (arith, nat_tests), grind (arith, nat_tests), grind (arith, nat_tests), grind (arith, nat_tests), grind (arith, nat_tests))
+
 module _ {W : Type 0} (weighed : Weighing W) (bs : List ℕ) (kind room : ℕ) where
   -- the files that are accepted are those that can be read
   accepted_readable : (h : Header) → file_answer kind weighed bs room ≡ Ok h → Readable kind weighed bs room
   accepted_readable h e =
       let a = accepted_parts weighed bs kind room h e in
-      let told = header_told kind bs room h a.1 in
+      let g = header_good kind bs room h a.1 in
       record {
-        counts = grind (arith, nat_tests);
-        some_point = grind (arith, nat_tests);
-        few_points = grind (arith, nat_tests);
-        few_runs = grind (arith, nat_tests);
-        right_kind = grind (arith, nat_tests);
-        whole = grind (arith, nat_tests);
-        fits = grind (arith, nat_tests);
+        counts = g.0;
+        some_point = g.1;
+        few_points = g.2;
+        few_runs = g.3;
+        right_kind = g.4;
+        whole = g.5;
+        fits = g.6;
         weights = λ k l.
             let x = runs_stand weighed bs h.runs h.runs 0 a.0 a.2 k (omega arith) in
             let here : k ≡ 0 + k = omega arith in
-            ap (λ n. is_ok (weight_at weighed bs n k)) (sym told.2) ∙ sym (run_weight weighed bs h.runs k) ∙ ap (λ m. is_ok (run_at weighed bs h.runs m)) here ∙ ap is_ok x.2;
+            ap (λ n. is_ok (weight_at weighed bs n k)) (sym g.7) ∙ sym (run_weight weighed bs h.runs k) ∙ ap (λ m. is_ok (run_at weighed bs h.runs m)) here ∙ ap is_ok x.2;
       }
 
   readable_accepted : Readable kind weighed bs room → is_ok (file_answer kind weighed bs room) ≡ true

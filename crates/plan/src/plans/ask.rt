@@ -1,4 +1,4 @@
-ghost use Rattle.std.specs.Prelude.{◌≡◌, length, IfOk};
+ghost use Rattle.std.specs.Prelude.{◌≡◌, ◌≤◌, length, IfOk};
 ghost use Rattle.plan.specs.Leave.{first_from, leaving_answer, part, Leave};
 ghost use Rattle.plan.specs.Sound.{Ordered};
 
@@ -24,7 +24,7 @@ impl<'a, W> Plan<'a, W> {
             return Err(PlanFault::Point(point));
         }
         let first = self.first_from(point);
-        let end = self.first_from(point + 1);
+        let end = first_not_below_from(self.runs, first, point + 1);
         Ok(&self.runs[first..end])
     }
 }
@@ -35,4 +35,15 @@ fn first_not_below<W>(runs: &[Run<W>], point: usize) -> usize
     ensures { result ≡ first_from point runs.now }
 {
     runs.partition_point(|run| usize::from(run.tail) < point)
+}
+
+// The same run, where it is known to stand no earlier than a place: the rest is searched alone, as a library's search of a few runs asks
+// more often than it has to.
+#[tactic(auto, using(crate::proofs::Tails::first_within, crate::proofs::Tails::first_on))]
+fn first_not_below_from<W>(runs: &[Run<W>], from: usize, point: usize) -> usize
+    requires ordered { Ordered runs.now }
+    requires later { from ≤ first_from point runs.now }
+    ensures { result ≡ first_from point runs.now }
+{
+    from + first_not_below(&runs[from..], point)
 }
