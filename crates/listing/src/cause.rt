@@ -12,7 +12,7 @@ pub enum Cause {
     File(FileFault),
     // The plan was refused.
     Plan(PlanFault),
-    // There was no memory for the run table or for the text.
+    // There was no memory for the text.
     Memory(AllocError),
 }
 
