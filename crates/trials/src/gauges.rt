@@ -185,12 +185,12 @@ fn a_house_cost_goes_along_in_all_its_parts_or_in_none(rt: HostRuntime) -> Resul
     let cable = cable_at(limits).map_err(Fault::from)?;
     for (cost, weight, want) in CABLES {
         let run = (cable_cost(cost), cable_cost(weight));
-        check_along(&rt, &limits, &cable, run, want.map(cable_cost));
+        check_along(&rt, &("cable", limits), &cable, run, want.map(cable_cost));
     }
     let drive = drive_at(limits).map_err(Fault::from)?;
     for (cost, weight, want) in DRIVES {
         let run = (drive_cost(cost), drive_cost(weight));
-        check_along(&rt, &limits, &drive, run, want.map(drive_cost));
+        check_along(&rt, &("drive", limits), &drive, run, want.map(drive_cost));
     }
     Ok(())
 }

@@ -37,6 +37,7 @@ const DRIVES: [Case; 12] = [
 // The first limit that is out of range is told, by the gauge that is made.
 fn check_limits<G, F: Fn([u32; 3]) -> Result<G, LimitFault>>(
     rt: &impl Abort,
+    kind: &str,
     cases: &[Case],
     made_at: F,
 )
@@ -46,12 +47,12 @@ where
 {
     for (limits, want) in cases {
         let refused = made_at(*limits).err().map(Fault::from);
-        assert_eq!(rt; refused, want.map(fault), "{limits:?}");
+        assert_eq!(rt; refused, want.map(fault), "{kind} {limits:?}");
     }
 }
 
 #[test]
 fn the_first_limit_out_of_range_is_told(rt: HostRuntime) {
-    check_limits(&rt, &CABLES, cable_at);
-    check_limits(&rt, &DRIVES, drive_at);
+    check_limits(&rt, "cable", &CABLES, cable_at);
+    check_limits(&rt, "drive", &DRIVES, drive_at);
 }
